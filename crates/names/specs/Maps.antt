@@ -1,0 +1,29 @@
+-- Name maps: what each renamed name becomes. In memory a map is its entries one after the other, the newest first. docs/FORMAT.md, 'Names'.
+-- Assumes nothing.
+use mathlib.Core.Bool.{true, false}
+use mathlib.Core.List.{List, [], _∷_, _++_}
+use mathlib.Core.Option.{Option, none, some}
+use Rattle.names.specs.Names.{Bytes, same, name-field}
+
+-- old and new name of each entry; the newest stands first
+abbrev pub NameMap : Type 0
+NameMap = List (Bytes × Bytes)
+
+-- the newest entry of a name
+unfoldable pub lookup : NameMap → Bytes → Option Bytes
+lookup [] n = none
+lookup (e ∷ es) n = elim (same n (e .0)) [ true ↦ some (e .1) | false ↦ lookup es n ]
+
+-- what a name becomes: itself where it has no entry
+unfoldable pub renamed : NameMap → Bytes → Bytes
+renamed m n = elim (lookup m n) [ none ↦ n | some v ↦ v ]
+
+-- a map in memory
+unfoldable pub map-bytes : NameMap → Bytes
+map-bytes [] = []
+map-bytes (e ∷ es) = name-field (e .0) ++ (name-field (e .1) ++ map-bytes es)
+
+-- unfolds with every definition of this file
+unfoldable pub computing-maps : Unit {0}
+unfolding lookup renamed map-bytes
+computing-maps = tt

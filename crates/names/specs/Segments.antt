@@ -1,0 +1,22 @@
+-- Segments of a list of bytes: what stands at a place, and which part of a list a change leaves alone.
+-- Assumes nothing.
+use mathlib.Core.Path.{_≡_}
+use Prim.Native.Nat.{ℕ, _+_, _≤_}
+use lib.ListN.{length, take, drop}
+use Rattle.names.specs.Names.{Bytes}
+
+-- bs stands in xs from p on
+pub record At (xs : Bytes) (p : ℕ) (bs : Bytes) : Type 0 where
+  pub fits : p + length bs ≤ length xs
+  pub there : take (length bs) (drop p xs) ≡ bs
+
+-- ys is xs but for what stands from lo up to hi
+pub record SameOutside (xs ys : Bytes) (lo hi : ℕ) : Type 0 where
+  pub size : length ys ≡ length xs
+  pub low : take lo ys ≡ take lo xs
+  pub high : drop hi ys ≡ drop hi xs
+
+-- the first n bytes of vs were written at q, and nothing else
+pub record Filled (xs ys : Bytes) (q : ℕ) (vs : Bytes) (n : ℕ) : Type 0 where
+  pub frame : SameOutside xs ys q (q + n)
+  pub got : take n (drop q ys) ≡ take n vs

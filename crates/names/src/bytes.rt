@@ -1,0 +1,64 @@
+// Bytes compared, written and read at a place.
+ghost use mathlib.Core.Path.{_≡_};
+ghost use Prim.Native.Nat.{_+_, _^_, _≤_, _<_};
+ghost use lib.ListN.{length, take, drop};
+ghost use Rattle.names.specs.Names.{same, number-of};
+ghost use Rattle.names.specs.Segments.{Filled};
+
+// Whether two names are equal.
+pub fn same(a: &[u8], b: &[u8]) -> bool
+    ensures { λ r. ⌜ r ≡ same (now (a .entry)) (now (b .entry)) ⌝ }
+{
+    if a.len() != b.len() {
+        return false;
+    }
+    let mut i = 0;
+    while i < a.len() {
+        if a[i] != b[i] {
+            return false;
+        }
+        i += 1;
+    }
+    true
+}
+
+// Whether a word stands in s at a place. Where too few bytes are left only the empty word does.
+pub fn is_word(s: &[u8], at: usize, word: &[u8]) -> bool
+    ensures { λ r. ⌜ r ≡ same (take (length (now (word .entry))) (drop at (now (s .entry)))) (now (word .entry)) ⌝ }
+{
+    let n = word.len();
+    if s.len() < n {
+        return false;
+    }
+    if s.len() - n < at {
+        return n == 0;
+    }
+    same(&s[at..at + n], word)
+}
+
+// Writes src into out at a place.
+pub fn put(out: &mut [u8], at: usize, src: &[u8])
+    requires { ⌜ at + length (now src) ≤ length (now out) ⌝ }
+    ensures { λ _. ⌜ Filled (now (out .entry)) (now (out .exit)) at (now (src .entry)) (length (now (src .entry))) ⌝ }
+{
+    let mut i = 0;
+    while i < src.len() {
+        out[at + i] = src[i];
+        i += 1;
+    }
+}
+
+// The number that `width` bytes at a place stand for.
+pub fn number(s: &[u8], at: usize, width: usize) -> usize
+    requires { ⌜ (width ≤ 8) × (at + width ≤ length (now s)) ⌝ }
+    ensures { λ r. ⌜ r ≡ number-of (take width (drop at (now (s .entry)))) ⌝ }
+    ensures { λ r. ⌜ r < 256 ^ width ⌝ }
+{
+    let mut n = 0;
+    let mut i = 0;
+    while i < width {
+        n = 256 * n + s[at + i] as usize;
+        i += 1;
+    }
+    n
+}

@@ -1,0 +1,27 @@
+// Names: comparing, making and looking them up, and the call Name.
+//
+// `bytes` has what works on plain bytes, `make` the names that `gensym` makes, `map` what a map
+// makes of a name, and `call` the call Name.
+pub mod bytes;
+pub mod call;
+pub mod make;
+pub mod map;
+
+// The bytes of the length that stands before a name.
+pub const NAME_WIDTH: usize = 1;
+
+// The most bytes that a name may have.
+pub const NAME_LIMIT: usize = 255;
+
+// The largest counter that a call takes.
+pub const MAX_COUNTER: u64 = 4294967295;
+
+// What a call answers: its number (0 accepted, else the refusal's), a place, the counter to go on
+// from, the rounds of an order, and how many bytes it wrote at the front of the result buffer.
+pub struct Answer {
+    pub number: u32,
+    pub place: u64,
+    pub counter: u64,
+    pub rounds: u64,
+    pub len: usize,
+}

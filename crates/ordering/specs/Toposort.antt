@@ -1,0 +1,71 @@
+-- The exact order of an assign's bindings, which is that of `toposort`.
+-- Assumes nothing.
+use Prim.Native.Nat.{ℕ, zero, suc, _-_}
+use mathlib.Core.Bool.{Bool, true, false, cond}
+use mathlib.Core.List.{List, [], _∷_, foldl}
+use lib.Dec.{ltb}
+use lib.ListN.{length, getD, set, take, drop}
+use Rattle.ordering.specs.Items.{Item, item-at, any, all, keep, gives, needed}
+
+-- a, a + 1, .. : as many as n
+abbrev pub indices-from : ℕ → ℕ → List ℕ
+indices-from a zero = []
+indices-from a (suc n) = a ∷ indices-from (suc a) n
+
+-- the row of all indices, and how many of them, from the left, are placed
+pub record Row : Type 0 where
+  pub row : List ℕ
+  pub placed : ℕ
+
+-- the row at first: all indices, rising, none of them placed
+unfoldable pub start : ℕ → Row
+start n = record { row = indices-from 0 n; placed = 0 }
+
+-- all that the binding with index i needs is provided by bindings of `done`
+unfoldable pub ready : List Item → List ℕ → ℕ → Bool
+ready bs done i = all (λ x. any (λ j. gives x (item-at bs j)) done) (needed bs i)
+
+-- the positions in the row, rising, of what a turn picks
+unfoldable pub picked : List Item → Row → List ℕ
+picked bs r =
+    keep (λ p. ready bs (take (r .placed) (r .row)) (getD (r .row) p 0))
+    (indices-from (r .placed) (length (r .row) - r .placed))
+
+-- what stands at i and at j changes places
+unfoldable pub swap : List ℕ → ℕ → ℕ → List ℕ
+swap l i j = set (set l i (getD l j 0)) j (getD l i 0)
+
+-- the index at position p changes places with the leftmost one not yet placed, and is then placed
+abbrev pub place : Row → ℕ → Row
+place r p = record { row = swap (r .row) (r .placed) p; placed = suc (r .placed) }
+
+-- a turn: what it picks is taken by position, from the left
+abbrev pub turn : List Item → Row → Row
+turn bs r = foldl place r (picked bs r)
+
+-- the order; or, at a deadlock, the indices that are not placed
+pub data Outcome : Type 0 where
+  ordered : List ℕ → Outcome
+  deadlock : List ℕ → Outcome
+
+-- a list with no element
+abbrev pub is-empty : List ℕ → Bool
+is-empty [] = true
+is-empty (x ∷ xs) = false
+
+-- at most so many turns
+abbrev pub turns : List Item → ℕ → Row → Outcome
+turns bs zero r = ordered (r .row)
+turns bs (suc n) r =
+    let more : Outcome = turns bs n (turn bs r) in
+    let go : Outcome = cond (is-empty (picked bs r)) (deadlock (drop (r .placed) (r .row))) more in
+    cond (ltb (r .placed) (length (r .row))) go (ordered (r .row))
+
+-- each turn but the last places one at least, so as many turns as there are bindings are enough (`enough` of proofs/Toposort.antt)
+unfoldable pub toposort : List Item → Outcome
+toposort bs = turns bs (length bs) (start (length bs))
+
+-- unfolds with every definition of this file, and of Items.antt
+unfoldable pub computing-toposort : Unit {0}
+unfolding gives needed start ready picked swap toposort
+computing-toposort = tt

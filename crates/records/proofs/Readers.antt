@@ -1,0 +1,49 @@
+-- What is known of a reader that is done, and of an input that is read whole. Assumes nothing.
+use mathlib.Core.Path.{_≡_, refl, ap, _∙_}
+use mathlib.Core.List.{[], _∷_}
+use mathlib.Core.Option.{Option, none}
+use Prim.Native.Nat.{ℕ}
+use native.Mathlib.Omega.{arith}
+use Rattle.names.specs.Names.{Bytes}
+use Rattle.records.specs.Limits.{level-limit, lambda-limit}
+use Rattle.records.specs.Read.{Plain, Context, Input, Fault, malformed, Read, done, refused, Reader, Whole, whole, unread, left-over, read-whole}
+
+-- nothing is said of the result
+abbrev pub Any : {A : Type 0} → A → Type 0
+Any a = Unit {0}
+
+pub not-done : {A : Type 0} {n : Fault} {p : ℕ} {a : A} {j : Input} → _≡_ {A = Read A} (refused n p) (done a j) → ⊥
+not-done e = let z : _≡_ {A = ℕ} 0 1 = cc in omega arith
+
+pub same-value : {A : Type 0} {a b : A} {i j : Input} → _≡_ {A = Read A} (done a i) (done b j) → a ≡ b
+same-value e = cc
+
+-- where a whole input is read from
+abbrev pub outermost : Context
+outermost = record { mark = 0; room = level-limit; lambdas = lambda-limit; zone = Plain }
+
+abbrev pub from-first : Bytes → Input
+from-first input = record { offset = 0; rest = input; first-mod = none }
+
+-- m reads the whole input as a
+pub record ReadsWhole {A : Type 0} (m : Reader A) (input : Bytes) (a : A) : Type 0 where
+  pub end : Input
+  pub ran : m outermost (from-first input) ≡ done a end
+  pub nothing-left : end .rest ≡ []
+
+module _ {A : Type 0} where
+  left-over-none : (a b : A) (i : Input) (o : Option ℕ) → left-over a i ≡ whole b o → (i .rest ≡ []) × (a ≡ b)
+  unfolding left-over
+  left-over-none a b i o h = go (i .rest) refl h
+    where
+      go : (r : Bytes) → i .rest ≡ r → _≡_ {A = Whole A} (elim r [ [] ↦ whole a (i .first-mod) | x ∷ xs ↦ unread malformed (i .offset) ]) (whole b o) → (i .rest ≡ []) × (a ≡ b)
+      go [] q h′ = (q, cc)
+      go (x ∷ xs) q h′ = absurd (let z : _≡_ {A = ℕ} 0 1 = cc in omega arith)
+
+  pub reads-whole : (m : Reader A) (input : Bytes) (a : A) (o : Option ℕ) → read-whole m input ≡ whole a o → ReadsWhole m input a
+  unfolding read-whole
+  reads-whole m input a o h = go (m outermost (from-first input)) refl h
+    where
+      go : (r : Read A) → m outermost (from-first input) ≡ r → _≡_ {A = Whole A} (elim r [ done b i ↦ left-over b i | refused n p ↦ unread n p ]) (whole a o) → ReadsWhole m input a
+      go (done b i) q h′ = let l = left-over-none b a i o h′ in record { end = i; ran = q ∙ ap (λ (x : A). done x i) (l .1); nothing-left = l .0 }
+      go (refused n p) q h′ = absurd (let z : _≡_ {A = ℕ} 0 1 = cc in omega arith)

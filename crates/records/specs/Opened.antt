@@ -1,0 +1,40 @@
+-- The record that a call is given: the limits, and the refusals before any work. docs/FORMAT.md, 'Calls'.
+-- Assumes nothing.
+use mathlib.Core.Bool.{Bool, true, false, _&&_}
+use mathlib.Core.Option.{none, some}
+use Prim.Native.Nat.{ℕ, _*_}
+use lib.Dec.{leb}
+use lib.ListN.{length}
+use Rattle.names.specs.Names.{Bytes}
+use Rattle.names.specs.Answers.{max-counter}
+use Rattle.records.specs.Limits.{least-longest, most-longest, work-factor}
+use Rattle.records.specs.Read.{Reader, Whole, whole, unread, fault-number, read-whole}
+
+-- F, the length of work memory and the counter are within their limits
+unfoldable pub limits : ℕ → ℕ → ℕ → Bool
+limits F work c = leb least-longest F && leb F most-longest && leb (work-factor * F) work && leb c max-counter
+
+-- the record of an input, or the first of the refusals 1, 3 by length, 2 and 3 by reading, 4
+pub data Opened (A : Type 0) : Type 0 where
+  opened : A → Opened A
+  closed : ℕ → ℕ → Opened A
+
+module _ {A : Type 0} where
+  -- 4: a BM in a binding body of an assign
+  unfoldable pub no-mod : Whole A → Opened A
+  no-mod (whole a none) = opened a
+  no-mod (whole a (some p)) = closed 4 p
+  no-mod (unread f p) = closed (fault-number f) p
+
+  -- the refusals in their order
+  unfoldable pub open-input : Reader A → ℕ → ℕ → ℕ → Bytes → Opened A
+  open-input reader F work c input =
+      elim (limits F work c) [
+        | false ↦ closed 1 0
+        | true ↦ elim (leb (length input) F) [ false ↦ closed 3 0 | true ↦ no-mod (read-whole reader input) ]
+      ]
+
+-- unfolds with every definition of this file
+unfoldable pub computing-opened : Unit {0}
+unfolding limits no-mod open-input
+computing-opened = tt

@@ -1,0 +1,417 @@
+-- Reading: bytes to one record, from left to right, or the first refusal, number and place. docs/FORMAT.md, 'Reading'.
+-- Assumes nothing.
+use mathlib.Core.Bool.{Bool, true, false, _&&_, _||_, not}
+use mathlib.Core.List.{List, [], _∷_, _++_}
+use mathlib.Core.Option.{Option, none, some}
+use Prim.Native.Nat.{ℕ, zero, suc, _+_, _-_}
+use Prim.Native.String.{String}
+use lib.Dec.{eqb, leb, ltb}
+use Rattle.names.specs.Names.{Bytes, ascii, same, number-of, name-width}
+use Rattle.records.specs.Limits.{level-limit, cons-limit, lambda-limit, count-limit}
+use Rattle.records.specs.Records.{Loc, loc-width, raw-width, Sexp, SN, SC, SI, SQ, SA, Kind, Parallel, Sequential, Assign, Pattern, Name, Complex, Body, BL, BQ, BV, BC, BM, BF, Tail, no-tail, tail, Binding, BB, Helper, HC, HM, HD, HN, HR, Form, CF, to-bodies, to-bindings, to-helpers}
+
+-- where a record stands: in no assign's binding body; in one, and in no BM; in a BM
+pub data Zone : Type 0 where
+  Plain InBinding InMod : Zone
+
+-- offset of the innermost record's mark; how many levels of B, H and CF records, and of BF records, may follow; the zone
+pub record Context : Type 0 where
+  pub mark : ℕ
+  pub room : ℕ
+  pub lambdas : ℕ
+  pub zone : Zone
+
+-- offset of the next byte; the bytes left; offset of the first BM met in a binding body of an assign
+pub record Input : Type 0 where
+  pub offset : ℕ
+  pub rest : Bytes
+  pub first-mod : Option ℕ
+
+-- why a reader refuses: not exactly one such record; a limit
+pub data Fault : Type 0 where
+  malformed over-limit : Fault
+
+-- a fault's refusal number
+unfoldable pub fault-number : Fault → ℕ
+fault-number malformed = 2
+fault-number over-limit = 3
+
+-- or a fault, and its place
+pub data Read (A : Type 0) : Type 0 where
+  done : A → Input → Read A
+  refused : Fault → ℕ → Read A
+
+abbrev pub Reader : Type 0 → Type 0
+Reader A = Context → Input → Read A
+
+module _ {A B : Type 0} where
+  infixl 20 _>>=_
+  infixl 20 _>>_
+  -- one reader, and then another on what is left
+  unfoldable pub _>>=_ : Reader A → (A → Reader B) → Reader B
+  _>>=_ m f c i = elim (m c i) [ done a j ↦ f a c j | refused n p ↦ refused n p ]
+
+  -- the same, whatever the first gave
+  unfoldable pub _>>_ : Reader A → Reader B → Reader B
+  _>>_ m k = m >>= λ a. k
+
+module _ {A : Type 0} where
+  -- nothing is read
+  unfoldable pub ret : A → Reader A
+  ret a c i = done a i
+
+  -- a fault, at the innermost mark
+  unfoldable pub refuse : Fault → Reader A
+  refuse n c i = refused n (c .mark)
+
+  -- a test of what was just read
+  unfoldable pub check : Fault → Bool → Reader A → Reader A
+  check n ok m c i = elim ok [ true ↦ m c i | false ↦ refused n (c .mark) ]
+
+module _ {A : Type 0} where
+  -- so many of the same
+  unfoldable pub times : ℕ → Reader A → Reader (List A)
+  times zero m = ret []
+  times (suc n) m = do
+    a ← m
+    rest ← times n m
+    ret (a ∷ rest)
+
+  -- the levels that the record read by m takes
+  unfoldable pub deeper : ℕ → Reader A → Reader A
+  deeper n m c i = elim (leb n (c .room)) [ true ↦ m (record { mark = c .mark; room = c .room - n; lambdas = c .lambdas; zone = c .zone }) i | false ↦ refused over-limit (c .mark) ]
+
+  -- inside one BF more
+  unfoldable pub in-lambda : Reader A → Reader A
+  in-lambda m c i = elim (leb 1 (c .lambdas)) [ true ↦ m (record { mark = c .mark; room = c .room; lambdas = c .lambdas - 1; zone = c .zone }) i | false ↦ refused over-limit (c .mark) ]
+
+  -- inside another zone
+  unfoldable pub in-zone : Zone → Reader A → Reader A
+  in-zone z m c i = m (record { mark = c .mark; room = c .room; lambdas = c .lambdas; zone = z }) i
+
+-- one byte
+unfoldable pub next : Reader ℕ
+next c i = elim (i .rest) [ [] ↦ refused malformed (c .mark) | b ∷ bs ↦ done b (record { offset = i .offset + 1; rest = bs; first-mod = i .first-mod }) ]
+
+-- so many bytes
+unfoldable pub bytes : ℕ → Reader Bytes
+bytes n = times n next
+
+module _ {A : Type 0} where
+  -- the reader that stands with a mark
+  unfoldable pub choose : Bytes → List (String × Reader A) → Reader A
+  choose m [] = refuse malformed
+  choose m (e ∷ es) = elim (same m (ascii (e .0))) [ true ↦ e .1 | false ↦ choose m es ]
+
+  -- a record: a mark of the list, and then what stands with it
+  unfoldable pub marked : List (String × Reader A) → Reader A
+  marked es c i = (bytes 2 >>= λ m. choose m es) (record { mark = i .offset; room = c .room; lambdas = c .lambdas; zone = c .zone }) i
+
+-- L
+unfoldable pub loc : Reader Loc
+loc = bytes loc-width
+
+-- N
+unfoldable pub name : Reader Bytes
+name = bytes name-width >>= λ b. bytes (number-of b)
+
+-- R, kept as its bytes
+unfoldable pub raw-field : Reader Bytes
+raw-field = do
+  b ← bytes raw-width
+  bs ← bytes (number-of b)
+  ret (b ++ bs)
+
+-- the bytes of a number, after their count
+unfoldable pub integer : Reader Bytes
+integer = next >>= λ n. bytes n
+
+-- a byte that is at most n
+unfoldable pub up-to : ℕ → Reader ℕ
+up-to n = next >>= λ b. check malformed (leb b n) (ret b)
+
+-- a byte, and an L where it asks for one
+unfoldable pub with-loc : Bool → ℕ → Reader Bytes
+with-loc more b = elim more [ true ↦ (loc >>= λ l. ret (b ∷ l)) | false ↦ ret (b ∷ []) ]
+
+-- K
+unfoldable pub keyword : Reader Bytes
+keyword = up-to 1 >>= λ b. with-loc (eqb b 1) b
+
+-- a let's hint
+unfoldable pub hint : Reader Bytes
+hint = up-to 3 >>= λ b. with-loc (leb 2 b) b
+
+-- a count
+unfoldable pub count : Reader ℕ
+count = next >>= λ n. check over-limit (leb n count-limit) (ret n)
+
+-- the shortest signed bytes of a number: the first says more than the sign of the second
+unfoldable pub shortest : Bytes → Bool
+shortest [] = false
+shortest (b ∷ []) = true
+shortest (a ∷ b ∷ bs) = not (eqb a 0 && ltb b 128 || eqb a 255 && leb 128 b)
+
+-- an S record, whose SC is read by `cons`
+unfoldable pub sexp-rule : Reader Sexp → Reader Sexp
+sexp-rule cons =
+    marked
+    (("SN", (loc >>= λ l. ret (SN l)))
+    ∷ ("SC", cons)
+    ∷ (
+      "SI",
+      do
+        l ← loc
+        v ← integer
+        check malformed (shortest v) (ret (SI l v)),
+    )
+    ∷ (
+      "SQ",
+      do
+        l ← loc
+        q ← next
+        n ← name
+        ret (SQ l q n),
+    )
+    ∷ (
+      "SA",
+      do
+        l ← loc
+        n ← name
+        ret (SA l n),
+    )
+    ∷ [])
+
+-- at most this many SC deep
+unfoldable pub sexp-at : ℕ → Reader Sexp
+sexp-at zero = sexp-rule (refuse over-limit)
+sexp-at (suc d) = sexp-rule (do
+  l ← loc
+  h ← sexp-at d
+  t ← sexp-at d
+  ret (SC l h t))
+
+-- an S record
+unfoldable pub sexp : Reader Sexp
+sexp = sexp-at cons-limit
+
+-- the readers of the records one level down
+pub record Readers : Type 0 where
+  pub body : Reader Body
+  pub helper : Reader Helper
+  pub form : Reader Form
+
+-- the kind that a byte stands for
+unfoldable pub kind-of : ℕ → Kind
+kind-of zero = Parallel
+kind-of (suc zero) = Sequential
+kind-of (suc (suc n)) = Assign
+
+-- a let of n bindings counts as one level; a sequential one as the larger of n and 1, so n - 1 more
+unfoldable pub more-levels : Kind → ℕ → ℕ
+more-levels Parallel n = 0
+more-levels Sequential n = n - 1
+more-levels Assign n = 0
+
+-- the zone of a let's binding bodies
+unfoldable pub binding-zone : Kind → Zone → Zone
+binding-zone Parallel z = z
+binding-zone Sequential z = z
+binding-zone Assign Plain = InBinding
+binding-zone Assign InBinding = InBinding
+binding-zone Assign InMod = InMod
+
+-- a BM at the innermost mark: noted if it is the first in a binding body of an assign
+unfoldable pub noted : Zone → Option ℕ → ℕ → Option ℕ
+noted Plain first p = first
+noted InBinding none p = some p
+noted InBinding (some q) p = some q
+noted InMod first p = first
+
+-- a BM is met
+unfoldable pub note : Reader Unit
+note c i = done tt (record { offset = i .offset; rest = i .rest; first-mod = noted (c .zone) (i .first-mod) (c .mark) })
+
+-- among the bindings of a let of kind k
+unfoldable pub in-bindings : {A : Type 0} → Kind → Reader A → Reader A
+in-bindings k m c i = in-zone (binding-zone k (c .zone)) m c i
+
+-- what stands after the byte that says Name or Complex
+unfoldable pub pattern-after : ℕ → Reader Pattern
+pattern-after zero = name >>= λ n. ret (Name n)
+pattern-after (suc b) = sexp >>= λ s. ret (Complex s)
+
+-- a pattern
+unfoldable pub pattern-of : Reader Pattern
+pattern-of = up-to 1 >>= λ b. pattern-after b
+
+-- BB
+unfoldable pub binding : Reader Body → Reader Binding
+binding body = marked ((
+  "BB",
+  do
+    l ← loc
+    nl ← loc
+    p ← pattern-of
+    b ← body
+    ret (BB l nl p b),
+) ∷ [])
+
+-- a let after its kind byte
+unfoldable pub let-of : Readers → Kind → Reader Body
+let-of r k = do
+  l ← loc
+  w ← keyword
+  h ← hint
+  n ← count
+  deeper (more-levels k n) (do
+    bs ← in-bindings k (times n (binding (r .body)))
+    b ← r .body
+    ret (BL k l w h (to-bindings bs) b))
+
+-- what stands after a call's tail byte
+unfoldable pub tail-after : Reader Body → ℕ → Reader Tail
+tail-after body zero = ret no-tail
+tail-after body (suc b) = body >>= λ t. ret (tail t)
+
+-- a call's tail
+unfoldable pub call-tail : Reader Body → Reader Tail
+call-tail body = up-to 1 >>= λ b. tail-after body b
+
+-- a B record
+unfoldable pub body-rule : Readers → Reader Body
+body-rule r = marked
+    (("BL", deeper 1 (up-to 2 >>= λ k. let-of r (kind-of k)))
+    ∷ ("BQ", deeper 1 (sexp >>= λ s. ret (BQ s)))
+    ∷ ("BV", deeper 1 (sexp >>= λ s. ret (BV s)))
+    ∷ (
+      "BC",
+      deeper 1 (do
+        l ← loc
+        n ← count
+        bs ← times n (r .body)
+        t ← call-tail (r .body)
+        ret (BC l (to-bodies bs) t)),
+    )
+    ∷ (
+      "BM",
+      deeper 1 (do
+        note
+        l ← loc
+        f ← in-zone InMod (r .form)
+        ret (BM l f)),
+    )
+    ∷ (
+      "BF",
+      deeper 1 (in-lambda (do
+        l ← loc
+        w ← keyword
+        ca ← sexp
+        c ← r .body
+        a ← sexp
+        b ← r .body
+        ret (BF l w ca c a b))),
+    )
+    ∷ [])
+
+-- an H record
+unfoldable pub helper-rule : Readers → Reader Helper
+helper-rule r = marked
+    ((
+      "HC",
+      deeper 1 (do
+        l ← loc
+        n ← name
+        x ← raw-field
+        b ← r .body
+        ret (HC l n x b)),
+    )
+    ∷ (
+      "HM",
+      deeper 1 (do
+        l ← loc
+        n ← name
+        x ← raw-field
+        a ← sexp
+        f ← r .form
+        ret (HM l n x a f)),
+    )
+    ∷ (
+      "HD",
+      deeper 1 (do
+        l ← loc
+        i ← up-to 1
+        n ← name
+        x ← raw-field
+        a ← sexp
+        b ← r .body
+        ret (HD l i n x a b)),
+    )
+    ∷ (
+      "HN",
+      deeper 1 (do
+        l ← loc
+        n ← name
+        x ← raw-field
+        k ← count
+        hs ← times k (r .helper)
+        ret (HN l n x (to-helpers hs))),
+    )
+    ∷ (
+      "HR",
+      deeper 1 (do
+        l ← loc
+        n ← name
+        x ← raw-field
+        ret (HR l n x)),
+    )
+    ∷ [])
+
+-- CF
+unfoldable pub form-rule : Readers → Reader Form
+form-rule r = marked ((
+  "CF",
+  deeper 1 (do
+    l ← loc
+    x ← raw-field
+    a ← sexp
+    n ← count
+    hs ← times n (r .helper)
+    b ← r .body
+    ret (CF l x a (to-helpers hs) b)),
+) ∷ [])
+
+-- all three
+unfoldable pub rules : Readers → Readers
+rules r = record { body = body-rule r; helper = helper-rule r; form = form-rule r }
+
+-- `fuel` is at least the room that the context leaves, so the readers below the last are not reached
+unfoldable pub readers : ℕ → Readers
+readers zero = rules (record { body = refuse over-limit; helper = refuse over-limit; form = refuse over-limit })
+readers (suc fuel) = rules (readers fuel)
+
+-- one BL of kind 2
+unfoldable pub assign-of : Reader Body
+assign-of = marked (("BL", deeper 1 (next >>= λ k. check malformed (eqb k 2) (let-of (readers (level-limit - 1)) Assign))) ∷ [])
+
+-- what a whole input holds: the tree, and the first BM in a binding body of an assign
+pub data Whole (A : Type 0) : Type 0 where
+  whole : A → Option ℕ → Whole A
+  unread : Fault → ℕ → Whole A
+
+-- 2 where bytes are left over
+unfoldable pub left-over : {A : Type 0} → A → Input → Whole A
+left-over a i = elim (i .rest) [ [] ↦ whole a (i .first-mod) | b ∷ bs ↦ unread malformed (i .offset) ]
+
+-- a whole input
+unfoldable pub read-whole : {A : Type 0} → Reader A → Bytes → Whole A
+read-whole m bs =
+    elim (m (record { mark = 0; room = level-limit; lambdas = lambda-limit; zone = Plain }) (record { offset = 0; rest = bs; first-mod = none })) [
+      | done a i ↦ left-over a i
+      | refused n p ↦ unread n p
+    ]
+
+-- unfolds with every definition of this file
+unfoldable pub computing-read : Unit {0}
+unfolding fault-number _>>=_ _>>_ ret refuse check times deeper in-lambda in-zone next bytes choose marked loc name raw-field integer up-to with-loc keyword hint count shortest sexp-rule sexp-at sexp kind-of more-levels binding-zone noted note in-bindings pattern-after pattern-of binding let-of tail-after call-tail body-rule helper-rule form-rule rules readers assign-of left-over read-whole
+computing-read = tt

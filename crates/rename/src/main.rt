@@ -1,0 +1,16 @@
+// The calls of the rename pass from the command line: the first argument says which.
+mod counter;
+mod name;
+mod refusal;
+mod say;
+
+// Runs the command that the first argument names.
+fn main() {
+    let mut command = io::buffer();
+    let n = os::arg(1, &mut command);
+    if names::bytes::same(&command[..n], b"name") {
+        name::run();
+    } else {
+        name::usage();
+    }
+}

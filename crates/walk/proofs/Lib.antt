@@ -1,0 +1,9 @@
+pub mod Cases
+pub mod Steps
+pub mod All
+pub mod Fuel
+pub mod Visits
+pub mod Demand
+pub mod Atoms
+pub mod Sizes
+pub mod Limits

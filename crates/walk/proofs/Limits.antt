@@ -1,0 +1,571 @@
+-- The walk runs within its bounds: a rule with fuel d, on a record at most d deep that has n atoms (Atoms.antt), refuses with 5, 6 or 7 alone (and so
+-- never runs out of fuel), draws
+-- at most n times 2 to the d numbers, and gives back a record no deeper and with no more atoms. So no call runs out of fuel, and each moves the
+-- counter by at most 2 to the 46. Assumes nothing.
+use mathlib.Core.Path.{_≡_, refl, ap, sym, _∙_}
+use mathlib.Core.Logic.{_⊎_, inl, inr}
+use mathlib.Core.Bool.{Bool, true, false}
+use mathlib.Core.List.{List, [], _∷_, _++_, List·Memᴰ·head, List·Memᴰ·tail, List·Memᴰ·not-nil}
+use mathlib.Core.Option.{Option, none, some}
+use Prim.Native.Nat.{ℕ, zero, suc, _+_, _-_, _^_, _≤_, _<_, max}
+use native.Mathlib.Omega.{arith}
+use lib.Dec.{leb}
+use lib.ListN.{length, getD}
+use Rattle.names.specs.Answers.{Result, refusal, delivered, written}
+use Rattle.names.specs.Names.{Bytes, ascii, same, name-limit, gensym}
+use Rattle.names.specs.Maps.{NameMap}
+use Rattle.records.specs.Depth.{levels, depth, bodies-depth, tail-depth, binding-depth, helper-depth, helpers-depth, form-depth, list-depth}
+use Rattle.records.specs.Limits.{level-limit, most-longest}
+use Rattle.records.specs.Opened.{Opened, opened, closed, open-input}
+use Rattle.records.specs.Read.{Reader, read-whole, readers, whole}
+use Rattle.records.specs.Records.{Loc, loc-number, Sexp, SN, SC, SI, SQ, SA, Parallel, Sequential, Assign, Pattern, Name, Complex, Body, BL, BQ, BV, BC, BM, BF, Bodies, []ᵇ, _∷ᵇ_, Tail, no-tail, tail, Binding, BB, Helper, HC, HM, HD, HN, HR, Helpers, []ʰ, _∷ʰ_, Form, CF, list-of, bindings-count, form-bytes, helper-bytes}
+use Rattle.records.proofs.Depth.{form-deep, helper-deep}
+use Rattle.records.proofs.Exact.{form-read-back, helper-read-back}
+use Rattle.records.proofs.Readers.{Any}
+use Rattle.records.proofs.Opened.{OpenedFrom, Start, start}
+use Rattle.ordering.specs.Lawful.{_is-in_}
+use Rattle.ordering.specs.Toposort.{Outcome, ordered, deadlock}
+use Rattle.ordering.specs.Words.{toposort-assign-bindings}
+use Rattle.walk.specs.Steps.{M, Out, done, refused, Visit, ret, refuse, _>>=_, _>>_, after, step, child, further, add-to-sum, take-from-sum, fits}
+use Rattle.walk.specs.Invent.{draw, invent-new-names-sexp, rename-in-cons-step, make-binding-unique, make-bindings-unique}
+use Rattle.walk.specs.Bodyforms.{desugar-sequential-let-bindings, each-body, call-tail, each-binding-body, Rules, args-then-in, rename-args-let, rename-args-desugared, rename-args-sequential, rename-assign-binding, rename-assign-bindings, rename-args-ordered, rename-args-assign, rename-args-bodyform, in-elements, rename-in-bodyform, body-rules, walk, log-assign, logged, no-binding}
+use Rattle.walk.specs.Helperforms.{FormRules, each-helper, further-helpers, rename-args-helperform, rename-in-helperform, rename-args-compileform, rename-in-compileform, rename-children-compileform, form-rules, form-walk, whole-walk, children-walk, helper-walk}
+use Rattle.walk.specs.Calls.{visits, answered, rename-call, visits-of, whole-call, children-call, helper-call, whole-visits, children-visits, helper-visits}
+use Rattle.walk.proofs.All.{All, all-none, all-cons, all-append, all-map, all-in}
+use Rattle.walk.proofs.Sizes.{dbl, dbl-add, dbl-mono, dbl-least, dbl-twice, sum-at, order-below, order-sum, depth-to-bindings, count-to-bindings, depth-list-of, count-list-of, depth-desugar, positive, pick-depth, atoms-desugar, some-level, helper-positive, form-positive}
+use Rattle.walk.proofs.Atoms.{sexp-atoms, pattern-atoms, atoms, bodies-atoms, tail-atoms, binding-atoms, bindings-atoms, helper-atoms, helpers-atoms, form-atoms, patterns-of, inside-of, list-atoms, list-parts, atoms-to-bindings, atoms-list-of, most-cons, few-form, few-helper}
+
+abbrev pub Below : ℕ → Visit → Type 0
+Below k e = e .counter ≤ k
+
+-- a walk refuses as deadlocked, for a made name that is too long, or for a record that is too long
+abbrev pub WalkRefusal : ℕ → Type 0
+WalkRefusal n = (n ≡ 5) ⊎ ((n ≡ 6) ⊎ (n ≡ 7))
+
+-- from the counter c: at most n further, at each assign reached too, and P of the result; or a refusal of the walk
+abbrev pub Fine : {A : Type 0} → ℕ → (A → Type 0) → ℕ → Out A → Type 0
+Fine n P c (done log a c′ x) = All (Below (c + n)) log × (c′ ≤ c + n) × P a
+Fine n P c (refused log m p) = All (Below (c + n)) log × WalkRefusal m
+
+pub record Runs {A : Type 0} (n : ℕ) (P : A → Type 0) (m : M A) : Type 0 where
+  pub fine : (c x : ℕ) → Fine n P c (m c x)
+
+runs-ret : {A : Type 0} {P : A → Type 0} {n : ℕ} (a : A) → P a → Runs n P (ret a)
+unfolding ret
+runs-ret a p = record { fine = λ c x. (all-none, omega arith, p) }
+
+runs-deadlock : {A : Type 0} {P : A → Type 0} {n : ℕ} (p : ℕ) → Runs {A = A} n P (refuse 5 p)
+unfolding refuse
+runs-deadlock p = record { fine = λ c x. (all-none, inl refl) }
+
+module _ {A : Type 0} {P Q : A → Type 0} where
+  fine-more : (n k c d : ℕ) (o : Out A) → d + n ≤ c + k → ((a : A) → P a → Q a) → Fine n P d o → Fine k Q c o
+  fine-more n k c d (done log a c′ x) h w f = (all-map (λ e q. omega arith) (f .0), omega arith, w a (f .2))
+  fine-more n k c d (refused log m p) h w f = (all-map (λ e q. omega arith) (f .0), f .1)
+
+  runs-weaken : {n k : ℕ} {m : M A} → n ≤ k → ((a : A) → P a → Q a) → Runs n P m → Runs k Q m
+  runs-weaken {n} {k} {m} h w s = record { fine = λ c x. fine-more n k c c (m c x) (omega arith) w (s .fine c x) }
+
+-- as `runs-weaken`, of the number alone
+runs-more : {A : Type 0} {P : A → Type 0} {n k : ℕ} {m : M A} → n ≤ k → Runs n P m → Runs k P m
+runs-more h s = runs-weaken h (λ a p. p) s
+
+fine-after : {A : Type 0} (n : ℕ) (P : A → Type 0) (c : ℕ) (log : List Visit) (o : Out A) → All (Below (c + n)) log → Fine n P c o → Fine n P c (after log o)
+unfolding after
+fine-after n P c log (done log₂ a c′ x) g f = (all-append g (f .0), f .1, f .2)
+fine-after n P c log (refused log₂ m p) g f = (all-append g (f .0), f .1)
+
+runs-bind : {A B : Type 0} {n k : ℕ} {P : A → Type 0} {Q : B → Type 0} {m : M A} {f : A → M B} → Runs n P m → ((a : A) → P a → Runs k Q (f a)) → Runs (n + k) Q (m >>= f)
+unfolding _>>=_
+runs-bind {A} {B} {n} {k} {P} {Q} {m} {f} s t = record { fine = λ c x. go c (m c x) (s .fine c x) }
+  where
+    go : (c : ℕ) (o : Out A) → Fine n P c o → Fine {A = B} (n + k) Q c (elim o [ done log a c′ x′ ↦ after log (f a c′ x′) | refused log m p ↦ refused log m p ])
+    go c (done log a c′ x′) r = fine-after (n + k) Q c log (f a c′ x′) (all-map (λ e q. omega arith) (r .0)) (fine-more k (n + k) c c′ (f a c′ x′) (omega arith) (λ b q. q) (t a (r .2) .fine c′ x′))
+    go c (refused log m p) r = (all-map (λ e q. omega arith) (r .0), r .1)
+
+-- at most so deep, and so many atoms
+abbrev pub Small : ℕ → ℕ → Body → Type 0
+Small d n b = (depth b ≤ d) × (atoms b ≤ n)
+
+abbrev pub SmallHelper : ℕ → ℕ → Helper → Type 0
+SmallHelper d n x = (helper-depth x ≤ d) × (helper-atoms x ≤ n)
+
+abbrev pub SmallForm : ℕ → ℕ → Form → Type 0
+SmallForm d n f = (form-depth f ≤ d) × (form-atoms f ≤ n)
+
+-- as deep and as long as l, and no more atoms in the patterns, nor in the bodies
+pub record Like (l k : List Binding) : Type 0 where
+  pub deep : list-depth k ≤ list-depth l
+  pub long : length k ≡ length l
+  pub patterns : patterns-of k ≤ patterns-of l
+  pub inside : inside-of k ≤ inside-of l
+
+module _ (F : ℕ) where
+  runs-add-to-sum : (n : ℕ) → Runs 0 Any (add-to-sum F n)
+  unfolding add-to-sum
+  runs-add-to-sum n = record { fine = λ c x. go c x (leb (x + n) F) }
+    where
+      go : (c x : ℕ) (b : Bool) → Fine {A = Unit {0}} 0 Any c (elim b [ true ↦ done [] tt c (x + n) | false ↦ refused [] 7 0 ])
+      go c x true = (all-none, omega arith, tt)
+      go c x false = (all-none, inr (inr refl))
+
+  runs-take-from-sum : (n : ℕ) → Runs 0 Any (take-from-sum F n)
+  unfolding take-from-sum
+  runs-take-from-sum n = record { fine = λ c x. (all-none, omega arith, tt) }
+
+  module _ {A : Type 0} {P : A → Type 0} {n : ℕ} (size : A → ℕ) where
+    runs-step : {m : M A} → Runs n P m → Runs n P (step F size m)
+    unfolding step fits
+    runs-step {m} s = record { fine = λ c x. go c x (m c 0) (s .fine c 0) }
+      where
+        go₂ : (c : ℕ) (a : A) (c′ x : ℕ) → (c′ ≤ c + n) × P a → (b : Bool) → Fine {A = A} n P c (elim b [ true ↦ done [] a c′ x | false ↦ refused [] 7 0 ])
+        go₂ c a c′ x p true = (all-none, p .0, p .1)
+        go₂ c a c′ x p false = (all-none, inr (inr refl))
+
+        go : (c x : ℕ) (o : Out A) → Fine n P c o → Fine {A = A} n P c (elim o [ done log a c′ x′ ↦ after log (fits F size a c′ x) | refused log m p ↦ refused log m p ])
+        go c x (done log a c′ x′) f = fine-after n P c log (fits F size a c′ x) (f .0) (go₂ c a c′ x (f .1, f .2) (leb (size a) F))
+        go c x (refused log m p) f = f
+
+    runs-child : {m : M A} → Runs n P m → Runs n P (child F size m)
+    unfolding child _>>_
+    runs-child s = runs-more (omega arith) (runs-bind s λ a p. runs-bind (runs-add-to-sum (size a)) λ _ _. runs-ret {n = 0} a p)
+
+    runs-further : (f : A → M A) (old : A) → Runs n P (f old) → Runs n P (further F size old f)
+    unfolding further _>>_
+    runs-further f old s = runs-more (omega arith) (runs-bind s λ a p. runs-bind (runs-take-from-sum (size old)) λ _ _. runs-bind (runs-add-to-sum (size a)) λ _ _. runs-ret {n = 0} a p)
+
+  pub runs-draw : (n : Bytes) → Runs 1 Any (draw n)
+  unfolding draw
+  runs-draw n = record { fine = λ c x. go c x (leb (length (gensym n c)) name-limit) }
+    where
+      go : (c x : ℕ) (b : Bool) → Fine {A = Bytes} 1 Any c (elim b [ true ↦ done [] (gensym n c) (c + 1) x | false ↦ refused [] 6 0 ])
+      go c x true = (all-none, omega arith, tt)
+      go c x false = (all-none, inr (inl refl))
+
+  runs-either : {A : Type 0} {n : ℕ} {P : A → Type 0} {m k : M A} (b : Bool) → Runs n P m → Runs n P k → Runs {A = A} n P (elim b [ true ↦ m | false ↦ k ])
+  runs-either true s t = s
+  runs-either false s t = t
+
+  pub runs-invent-new-names-sexp : (m : NameMap) (s : Sexp) → Runs (sexp-atoms s) Any (invent-new-names-sexp m s)
+  unfolding invent-new-names-sexp sexp-atoms
+  runs-invent-new-names-sexp m (SN l) = runs-ret m tt
+  runs-invent-new-names-sexp m (SC l x y) = runs-bind (runs-invent-new-names-sexp m x) λ m′ _. runs-invent-new-names-sexp m′ y
+  runs-invent-new-names-sexp m (SI l v) = runs-ret m tt
+  runs-invent-new-names-sexp m (SQ l q n) = runs-ret m tt
+  runs-invent-new-names-sexp m (SA l n) = runs-either (same n (ascii "@")) (runs-ret m tt) (runs-bind (runs-draw n) λ n′ _. runs-ret {n = 0} ((n, n′) ∷ m) tt)
+
+  pub runs-rename-in-cons-step : (qq : Bool) (m : NameMap) (s : Sexp) → Runs 0 (λ r. sexp-atoms r ≤ sexp-atoms s) (rename-in-cons-step F qq m s)
+  unfolding rename-in-cons-step
+  runs-rename-in-cons-step qq m s = runs-step _ (runs-ret _ (most-cons qq m s .few))
+
+  pub runs-make-binding-unique : (p : Pattern) → Runs (pattern-atoms p) (λ v. pattern-atoms (v .1) ≤ pattern-atoms p) (make-binding-unique F p)
+  unfolding make-binding-unique pattern-atoms
+  runs-make-binding-unique (Name n) = runs-bind (runs-draw n) λ n′ _. runs-ret {n = 0} _ (omega arith)
+  runs-make-binding-unique (Complex s) = runs-more (omega arith) (runs-bind (runs-invent-new-names-sexp [] s) λ m _. runs-bind (runs-child _ (runs-rename-in-cons-step false m s)) λ s′ q. runs-ret {n = 0} _ q)
+
+  pub runs-make-bindings-unique : (m : NameMap) (bs : List Binding) → Runs (patterns-of bs) (λ v. Like bs (v .1)) (make-bindings-unique F m bs)
+  unfolding make-bindings-unique patterns-of inside-of list-depth binding-depth
+  runs-make-bindings-unique m [] = runs-ret _ (record { deep = omega arith; long = refl; patterns = omega arith; inside = omega arith })
+  runs-make-bindings-unique m (BB l nl p b ∷ bs) =
+      runs-more (omega arith)
+      (runs-bind (runs-make-binding-unique p) λ u q. runs-bind (runs-make-bindings-unique (u .0 ++ m) bs) λ v e.
+      runs-ret {n = 0} _ (record { deep = omega (arith, e .deep); long = ap suc (e .long); patterns = omega (arith, e .patterns); inside = omega (arith, e .inside) }))
+
+  -- f is within the bounds, with fuel d
+  abbrev pub Bounded : ℕ → (Body → M Body) → Type 0
+  Bounded d f = (b : Body) → depth b ≤ d → Runs (dbl d (atoms b)) (Small (depth b) (atoms b)) (f b)
+
+  module _ (d : ℕ) {f : Body → M Body} (s : Bounded d f) where
+    pub runs-each-body : (bs : Bodies) → bodies-depth bs ≤ d → Runs (dbl d (bodies-atoms bs)) (λ k. (bodies-depth k ≤ bodies-depth bs) × (bodies-atoms k ≤ bodies-atoms bs)) (each-body F f bs)
+    unfolding each-body atoms depth
+    runs-each-body []ᵇ h = runs-ret _ (omega arith, omega arith)
+    runs-each-body (b ∷ᵇ bs) h =
+        runs-more (omega (arith, dbl-add d (atoms b) (bodies-atoms bs)))
+        (runs-bind (runs-child _ (s b (omega arith))) λ b′ p. runs-bind (runs-each-body bs (omega arith)) λ bs′ q. runs-ret {n = 0} _ (omega arith, omega arith))
+
+    pub runs-call-tail : (t : Tail) → tail-depth t ≤ d → Runs (dbl d (tail-atoms t)) (λ k. (tail-depth k ≤ tail-depth t) × (tail-atoms k ≤ tail-atoms t)) (call-tail F f t)
+    unfolding call-tail atoms depth
+    runs-call-tail no-tail h = runs-ret _ (omega arith, omega arith)
+    runs-call-tail (tail b) h = runs-more (omega arith) (runs-bind (runs-child _ (s b h)) λ b′ p. runs-ret {n = 0} _ p)
+
+    pub runs-each-binding-body : (bs : List Binding) → list-depth bs ≤ d → Runs (dbl d (inside-of bs)) (Like bs) (each-binding-body F f bs)
+    unfolding each-binding-body patterns-of inside-of list-depth binding-depth
+    runs-each-binding-body [] h = runs-ret _ (record { deep = omega arith; long = refl; patterns = omega arith; inside = omega arith })
+    runs-each-binding-body (BB l nl p b ∷ bs) h =
+        runs-more (omega (arith, dbl-add d (atoms b) (inside-of bs)))
+        (runs-bind (runs-child _ (s b (omega arith))) λ b′ q. runs-bind (runs-each-binding-body bs (omega arith)) λ bs′ e.
+        runs-ret {n = 0} _ (record { deep = omega (arith, e .deep); long = ap suc (e .long); patterns = omega (arith, e .patterns); inside = omega (arith, e .inside) }))
+
+  pub record BoundedRules (d : ℕ) (r : Rules) : Type 0 where
+    pub args-bodyform : Bounded d (r .args-bodyform)
+    pub in-bodyform : (m : NameMap) → Bounded d (r .in-bodyform m)
+
+  module _ (d : ℕ) (r : Rules) (s : BoundedRules d r) where
+    -- on what another rule gave
+    runs-in-bodyform : (m : NameMap) (b o : Body) → depth b ≤ d → Small (depth b) (atoms b) o → Runs (dbl d (atoms b)) (Small (depth b) (atoms b)) (r .in-bodyform m o)
+    runs-in-bodyform m b o h q = runs-weaken (dbl-mono d (atoms o) (atoms b) (q .1)) (λ a p. (omega arith, omega arith)) (s .in-bodyform m o (omega arith))
+
+    pub runs-args-then-in : (m : NameMap) (b : Body) → depth b ≤ d → Runs (dbl d (atoms b) + dbl d (atoms b)) (Small (depth b) (atoms b)) (args-then-in F r m b)
+    unfolding args-then-in
+    runs-args-then-in m b h = runs-bind (runs-child _ (s .args-bodyform b h)) λ o p. runs-further _ _ o (runs-in-bodyform m b o h p)
+
+    pub runs-rename-args-let : (l : Loc) (k h : Bytes) (bs : List Binding) (b : Body) → list-depth bs ≤ d → depth b ≤ d
+        → let n : ℕ = patterns-of bs + inside-of bs + atoms b in Runs (dbl (suc d) n) (Small (1 + max (list-depth bs) (depth b)) n) (rename-args-let F r l k h bs b)
+    unfolding rename-args-let atoms depth levels
+    runs-rename-args-let l k h bs b x y =
+        let p = patterns-of bs in
+        let i = inside-of bs in
+        let n = atoms b in
+        runs-more (omega (arith, dbl-twice d (p + i + n), dbl-add d (p + i) n, dbl-add d p i, dbl-least d p))
+        (runs-bind (runs-make-bindings-unique [] bs) λ u e.
+        runs-bind (runs-more (dbl-mono d (inside-of (u .1)) i (e .inside)) (runs-each-binding-body d (s .args-bodyform) (u .1) (omega (arith, e .deep)))) λ v g.
+        runs-bind (runs-args-then-in (u .0) b y) λ b′ w.
+        runs-ret {n = 0} _ (omega (arith, depth-to-bindings v, e .deep, g .deep), omega (arith, atoms-to-bindings v, list-parts v, e .patterns, e .inside, g .patterns, g .inside)))
+
+    runs-rename-args-desugared : (bs : List Binding) (b : Body) → max (length bs) 1 + max (list-depth bs) (depth b) ≤ suc d
+        → let n : ℕ = patterns-of bs + inside-of bs + atoms b in Runs (dbl (suc d) n) (Small (max (length bs) 1 + max (list-depth bs) (depth b)) n) (rename-args-desugared F r bs b)
+    unfolding rename-args-desugared patterns-of inside-of list-depth binding-depth
+    runs-rename-args-desugared [] b h =
+        runs-weaken (omega (arith, dbl-twice d (0 + 0 + atoms b), dbl-mono d (atoms b) (0 + 0 + atoms b) (omega arith))) (λ a q. (omega arith, omega arith)) (s .args-bodyform b (omega arith))
+    runs-rename-args-desugared (BB l nl p e ∷ bs) b h =
+        let x = pattern-atoms p + 0 + (atoms e + 0) + atoms (desugar-sequential-let-bindings bs b) in
+        let y = pattern-atoms p + patterns-of bs + (atoms e + inside-of bs) + atoms b in
+        runs-weaken (dbl-mono (suc d) x y (omega (arith, atoms-desugar bs b))) (λ a q. (omega (arith, depth-desugar bs b), omega (arith, atoms-desugar bs b)))
+        (runs-step _ (runs-rename-args-let l _ _ (BB l nl p e ∷ []) (desugar-sequential-let-bindings bs b) (omega arith) (omega (arith, depth-desugar bs b))))
+
+    runs-rename-args-sequential : (bs : List Binding) (b : Body) → max (length bs) 1 + max (list-depth bs) (depth b) ≤ suc d
+        → let n : ℕ = patterns-of bs + inside-of bs + atoms b in Runs (dbl (suc d) n) (Small (max (length bs) 1 + max (list-depth bs) (depth b)) n) (rename-args-sequential F r bs b)
+    unfolding rename-args-sequential
+    runs-rename-args-sequential bs b h = runs-more (omega arith) (runs-bind {n = 0} {P = Any} (runs-child _ (runs-ret _ tt)) λ x _. runs-further _ _ x (runs-rename-args-desugared bs b h))
+
+    pub runs-rename-assign-binding : (m : NameMap) (b : Binding) → binding-depth b ≤ d
+        → Runs (dbl (suc d) (binding-atoms b)) (λ v. (binding-depth (v .1) ≤ binding-depth b) × (binding-atoms (v .1) ≤ binding-atoms b)) (rename-assign-binding F r m b)
+    unfolding rename-assign-binding atoms pattern-atoms depth
+    runs-rename-assign-binding m (BB l nl (Name n) b) h = runs-ret _ (omega arith, omega arith)
+    runs-rename-assign-binding m (BB l nl (Complex p) b) h =
+        let x = sexp-atoms p in
+        let n = atoms b in
+        runs-more (omega (arith, dbl-twice d (x + n), dbl-add d x n, dbl-least d x))
+        (runs-bind (runs-invent-new-names-sexp m p) λ m′ _. runs-bind (runs-child _ (s .args-bodyform b h)) λ o q. runs-bind (runs-child _ (runs-rename-in-cons-step false m′ p)) λ p′ u.
+        runs-bind (runs-further _ _ o (runs-in-bodyform m′ b o h q)) λ b′ w. runs-ret {n = 0} _ (omega arith, omega arith))
+
+    pub runs-rename-assign-bindings : (bs : List Binding) (is : List ℕ) (m : NameMap) (w : List Binding) → list-depth bs ≤ d → ((i : ℕ) → i is-in is → i < length bs) → list-depth w ≤ list-depth bs
+        → Runs (dbl (suc d) (sum-at bs is)) (λ v. (list-depth (v .1) ≤ list-depth bs) × (list-atoms (v .1) ≤ list-atoms w + sum-at bs is)) (rename-assign-bindings F r bs is m w)
+    unfolding rename-assign-bindings sum-at list-atoms list-depth
+    runs-rename-assign-bindings bs [] m w h p q = runs-ret _ (q, omega arith)
+    runs-rename-assign-bindings bs (i ∷ is) m w h p q =
+        let x = binding-atoms (getD bs i no-binding) in
+        let y = pick-depth bs i (p i (List·Memᴰ·head refl)) in
+        runs-more (omega (arith, dbl-add (suc d) x (sum-at bs is)))
+        (runs-bind {k = dbl (suc d) (sum-at bs is)} {Q = λ v. (list-depth (v .1) ≤ list-depth bs) × (list-atoms (v .1) ≤ list-atoms w + (x + sum-at bs is))}
+        (runs-rename-assign-binding m (getD bs i no-binding) (omega arith)) λ u e.
+        runs-weaken (omega arith) (λ a g. (g .0, omega arith)) (runs-rename-assign-bindings bs is (u .0) (u .1 ∷ w) h (λ j z. p j (List·Memᴰ·tail z)) (omega arith)))
+
+    runs-rename-args-ordered : (l : Loc) (k h : Bytes) (bs : List Binding) (b : Body) (is : List ℕ) → toposort-assign-bindings bs ≡ ordered is → list-depth bs ≤ d → depth b ≤ d
+        → Runs (dbl (suc d) (list-atoms bs + atoms b)) (Small (1 + max (list-depth bs) (depth b)) (list-atoms bs + atoms b)) (rename-args-ordered F r l k h bs b is)
+    unfolding rename-args-ordered atoms depth levels list-atoms list-depth
+    runs-rename-args-ordered l k h bs b is e x y =
+        let n = list-atoms bs in
+        let i = atoms b in
+        let z = order-sum bs is e in
+        runs-more (omega (arith, dbl-add (suc d) n i, dbl-twice d i, dbl-mono (suc d) (sum-at bs is) n z))
+        (runs-bind (runs-rename-assign-bindings bs is [] [] x (order-below bs is e) (omega arith)) λ u g. runs-bind (runs-args-then-in (u .0) b y) λ b′ w.
+        runs-ret {n = 0} _ (omega (arith, depth-to-bindings (u .1)), omega (arith, atoms-to-bindings (u .1))))
+
+    runs-rename-args-assign : (l : Loc) (k h : Bytes) (bs : List Binding) (b : Body) → list-depth bs ≤ d → depth b ≤ d
+        → Runs (dbl (suc d) (list-atoms bs + atoms b)) (Small (1 + max (list-depth bs) (depth b)) (list-atoms bs + atoms b)) (rename-args-assign F r l k h bs b)
+    unfolding rename-args-assign
+    runs-rename-args-assign l k h bs b x y = go (toposort-assign-bindings bs) refl
+      where
+        go : (o : Outcome) → toposort-assign-bindings bs ≡ o
+            → Runs (dbl (suc d) (list-atoms bs + atoms b)) (Small (1 + max (list-depth bs) (depth b)) (list-atoms bs + atoms b)) (elim o as (λ _. M Body) [ deadlock _ ↦ refuse 5 (loc-number l) | ordered is ↦ rename-args-ordered F r l k h bs b is ])
+        go (deadlock left) q = runs-deadlock (loc-number l)
+        go (ordered is) q = runs-rename-args-ordered l k h bs b is q x y
+
+    runs-rename-args-bodyform : Bounded (suc d) (rename-args-bodyform F r)
+    unfolding rename-args-bodyform atoms depth levels
+    runs-rename-args-bodyform (BL Parallel l k h bs b) z =
+        runs-weaken (dbl-mono (suc d) _ _ (omega (arith, atoms-list-of bs, list-parts (list-of bs)))) (λ a q. (omega (arith, depth-list-of bs), omega (arith, atoms-list-of bs, list-parts (list-of bs))))
+        (runs-rename-args-let l k h (list-of bs) b (omega (arith, depth-list-of bs)) (omega arith))
+    runs-rename-args-bodyform (BL Sequential l k h bs b) z =
+        runs-weaken (dbl-mono (suc d) _ _ (omega (arith, atoms-list-of bs, list-parts (list-of bs))))
+        (λ a q. (omega (arith, depth-list-of bs, count-list-of bs), omega (arith, atoms-list-of bs, list-parts (list-of bs))))
+        (runs-rename-args-sequential (list-of bs) b (omega (arith, depth-list-of bs, count-list-of bs)))
+    runs-rename-args-bodyform (BL Assign l k h bs b) z =
+        runs-weaken (dbl-mono (suc d) _ _ (omega (arith, atoms-list-of bs))) (λ a q. (omega (arith, depth-list-of bs), omega (arith, atoms-list-of bs)))
+        (runs-rename-args-assign l k h (list-of bs) b (omega (arith, depth-list-of bs)) (omega arith))
+    runs-rename-args-bodyform (BQ x) z = runs-ret _ (omega arith, omega arith)
+    runs-rename-args-bodyform (BV x) z = runs-ret _ (omega arith, omega arith)
+    runs-rename-args-bodyform (BC l bs t) z =
+        runs-more (omega (arith, dbl-twice d (bodies-atoms bs + tail-atoms t), dbl-add d (bodies-atoms bs) (tail-atoms t)))
+        (runs-bind (runs-each-body d (s .args-bodyform) bs (omega arith)) λ bs′ p. runs-bind (runs-call-tail d (s .args-bodyform) t (omega arith)) λ t′ q. runs-ret {n = 0} _ (omega arith, omega arith))
+    runs-rename-args-bodyform (BM l f) z = runs-ret _ (omega arith, omega arith)
+    runs-rename-args-bodyform (BF l k ca c a b) z =
+        let v = atoms c in
+        let x = sexp-atoms a in
+        let y = atoms b in
+        runs-more (omega (arith, dbl-twice d (v + (x + y)), dbl-add d v (x + y), dbl-add d x y, dbl-least d x))
+        (runs-bind (runs-invent-new-names-sexp [] a) λ m _. runs-bind (runs-child _ (runs-rename-in-cons-step false m a)) λ a′ p. runs-bind (runs-args-then-in m b (omega arith)) λ b′ q. runs-ret {n = 0} _ (omega arith, omega arith))
+
+    pub runs-in-elements : (m : NameMap) (bs : Bodies) → bodies-depth bs ≤ d → Runs (dbl d (bodies-atoms bs)) (λ k. (bodies-depth k ≤ bodies-depth bs) × (bodies-atoms k ≤ bodies-atoms bs)) (in-elements F r m bs)
+    unfolding in-elements atoms depth
+    runs-in-elements m []ᵇ h = runs-ret _ (omega arith, omega arith)
+    runs-in-elements m (b ∷ᵇ bs) h =
+        runs-more (omega (arith, dbl-add d (atoms b) (bodies-atoms bs)))
+        (runs-bind (runs-child _ (s .in-bodyform m b (omega arith))) λ b′ p. runs-bind {n = 0} {P = λ x. x ≡ b} (runs-further _ _ b′ (runs-ret b refl)) λ b″ e.
+        runs-bind (runs-each-body d (s .in-bodyform m) bs (omega arith)) λ bs′ q. runs-ret {n = 0} _ (omega (arith, ap depth e), omega (arith, ap atoms e)))
+
+    runs-rename-in-bodyform : (m : NameMap) → Bounded (suc d) (rename-in-bodyform F r m)
+    unfolding rename-in-bodyform atoms depth
+    runs-rename-in-bodyform m (BL k l w h bs b) z =
+        let x = inside-of (list-of bs) in
+        let y = atoms b in
+        let v = some-level k (bindings-count bs) in
+        runs-more (omega (arith, dbl-twice d (bindings-atoms bs + y), dbl-add d (bindings-atoms bs) y, dbl-mono d x (bindings-atoms bs) (omega (arith, atoms-list-of bs, list-parts (list-of bs)))))
+        (runs-bind (runs-each-binding-body d (s .in-bodyform m) (list-of bs) (omega (arith, depth-list-of bs))) λ bs′ e. runs-bind (runs-child _ (s .in-bodyform m b (omega arith))) λ b′ q.
+        runs-ret {n = 0} _ (
+          omega (arith, depth-list-of bs, depth-to-bindings bs′, e .deep, ap (levels k) (count-to-bindings bs′ ∙ e .long ∙ sym (count-list-of bs))),
+          omega (arith, atoms-list-of bs, list-parts (list-of bs), atoms-to-bindings bs′, list-parts bs′, e .patterns, e .inside),
+        ))
+    runs-rename-in-bodyform m (BQ x) z = runs-ret _ (omega arith, omega arith)
+    runs-rename-in-bodyform m (BV x) z = runs-ret _ (omega arith, omega arith)
+    runs-rename-in-bodyform m (BC l bs t) z =
+        runs-more (omega (arith, dbl-twice d (bodies-atoms bs + tail-atoms t), dbl-add d (bodies-atoms bs) (tail-atoms t)))
+        (runs-bind (runs-in-elements m bs (omega arith)) λ bs′ p. runs-bind (runs-call-tail d (s .in-bodyform m) t (omega arith)) λ t′ q. runs-ret {n = 0} _ (omega arith, omega arith))
+    runs-rename-in-bodyform m (BM l f) z = runs-ret _ (omega arith, omega arith)
+    runs-rename-in-bodyform m (BF l k ca c a b) z =
+        let v = atoms c in
+        let x = sexp-atoms a in
+        let y = atoms b in
+        runs-more (omega (arith, dbl-twice d (v + (x + y)), dbl-add d v (x + y), dbl-add d x y))
+        (runs-bind (runs-child _ (s .in-bodyform m c (omega arith))) λ c′ p. runs-bind (runs-child _ (runs-rename-in-cons-step false m ca)) λ ca′ _. runs-bind (runs-args-then-in m b (omega arith)) λ b′ q.
+        runs-ret {n = 0} _ (omega arith, omega arith))
+
+  fine-logged : (n : ℕ) (P : Body → Type 0) (c : ℕ) (e : Option Body → Visit) → ((o : Option Body) → Below (c + n) (e o)) → (o : Out Body) → Fine n P c o → Fine n P c (logged e o)
+  unfolding logged
+  fine-logged n P c e h (done log a c′ x) f = (all-cons (h (some a)) (f .0), f .1, f .2)
+  fine-logged n P c e h (refused log m p) f = (all-cons (h none) (f .0), f .1)
+
+  runs-reach : {n : ℕ} {P : Body → Type 0} {m : M Body} (b : Body) → Runs n P m → Runs n P (log-assign b m)
+  unfolding log-assign
+  runs-reach (BL Parallel l k h bs b) s = s
+  runs-reach (BL Sequential l k h bs b) s = s
+  runs-reach {n} {P} {m} (BL Assign l k h bs b) s = record { fine = λ c x. fine-logged n P c _ (λ o. omega arith) (m c x) (s .fine c x) }
+  runs-reach (BQ x) s = s
+  runs-reach (BV x) s = s
+  runs-reach (BC l bs t) s = s
+  runs-reach (BM l f) s = s
+  runs-reach (BF l k ca c a b) s = s
+
+  -- the rules of bodies
+  pub runs-walk : (fuel : ℕ) → BoundedRules fuel (walk F fuel)
+  unfolding walk body-rules
+  runs-walk zero = record { args-bodyform = λ b h. absurd (omega (arith, positive b)); in-bodyform = λ m b h. absurd (omega (arith, positive b)) }
+  runs-walk (suc fuel) =
+      let s = runs-walk fuel in
+      record { args-bodyform = λ b h. runs-reach b (runs-step _ (runs-rename-args-bodyform fuel _ s b h)); in-bodyform = λ m b h. runs-step _ (runs-rename-in-bodyform fuel _ s m b h) }
+
+  -- a rule of helpers, and one of forms
+  abbrev pub BoundedHelper : ℕ → (Helper → M Helper) → Type 0
+  BoundedHelper d f = (x : Helper) → helper-depth x ≤ d → Runs (dbl d (helper-atoms x)) (SmallHelper (helper-depth x) (helper-atoms x)) (f x)
+
+  abbrev pub BoundedForm : ℕ → (Form → M Form) → Type 0
+  BoundedForm d f = (x : Form) → form-depth x ≤ d → Runs (dbl d (form-atoms x)) (SmallForm (form-depth x) (form-atoms x)) (f x)
+
+  -- at most so deep, and so many atoms
+  abbrev pub SmallHelpers : ℕ → ℕ → Helpers → Type 0
+  SmallHelpers d n xs = (helpers-depth xs ≤ d) × (helpers-atoms xs ≤ n)
+
+  module _ (d : ℕ) {f : Helper → M Helper} (s : BoundedHelper d f) where
+    pub runs-each-helper : (xs : Helpers) → helpers-depth xs ≤ d → Runs (dbl d (helpers-atoms xs)) (SmallHelpers (helpers-depth xs) (helpers-atoms xs)) (each-helper F f xs)
+    unfolding each-helper helpers-atoms helpers-depth
+    runs-each-helper []ʰ h = runs-ret _ (omega arith, omega arith)
+    runs-each-helper (x ∷ʰ xs) h =
+        runs-more (omega (arith, dbl-add d (helper-atoms x) (helpers-atoms xs)))
+        (runs-bind (runs-child _ (s x (omega arith))) λ x′ p. runs-bind (runs-each-helper xs (omega arith)) λ xs′ q. runs-ret {n = 0} _ (omega arith, omega arith))
+
+    pub runs-further-helpers : (xs : Helpers) → helpers-depth xs ≤ d → Runs (dbl d (helpers-atoms xs)) (SmallHelpers (helpers-depth xs) (helpers-atoms xs)) (further-helpers F f xs)
+    unfolding further-helpers helpers-atoms helpers-depth
+    runs-further-helpers []ʰ h = runs-ret _ (omega arith, omega arith)
+    runs-further-helpers (x ∷ʰ xs) h =
+        runs-more (omega (arith, dbl-add d (helper-atoms x) (helpers-atoms xs)))
+        (runs-bind (runs-further _ _ x (s x (omega arith))) λ x′ p. runs-bind (runs-further-helpers xs (omega arith)) λ xs′ q. runs-ret {n = 0} _ (omega arith, omega arith))
+
+  pub record BoundedForms (d : ℕ) (q : FormRules) : Type 0 where
+    pub args-helperform : BoundedHelper d (q .args-helperform)
+    pub in-helperform : (m : NameMap) → BoundedHelper d (q .in-helperform m)
+    pub args-compileform : BoundedForm d (q .args-compileform)
+    pub in-compileform : (m : NameMap) → BoundedForm d (q .in-compileform m)
+
+  module _ (d : ℕ) (r : Rules) (q : FormRules) (s : BoundedRules d r) (t : BoundedForms d q) where
+    runs-rename-args-helperform : BoundedHelper (suc d) (rename-args-helperform F r q)
+    unfolding rename-args-helperform helper-atoms helper-depth
+    runs-rename-args-helperform (HC l n x b) h = runs-more (omega (arith, dbl-twice d (atoms b))) (runs-bind (runs-child _ (s .args-bodyform b (omega arith))) λ b′ p. runs-ret {n = 0} _ (omega arith, omega arith))
+    runs-rename-args-helperform (HM l n x a f) h =
+        let y = sexp-atoms a in
+        let z = form-atoms f in
+        runs-more (omega (arith, dbl-twice d (y + z), dbl-add d y z, dbl-least d y))
+        (runs-bind (runs-invent-new-names-sexp [] a) λ m _. runs-bind (runs-child _ (runs-rename-in-cons-step true m a)) λ a′ u. runs-bind (runs-child _ (t .args-compileform f (omega arith))) λ f′ p.
+        runs-bind
+        (runs-weaken {P = SmallForm (form-depth f′) (form-atoms f′)} {Q = SmallForm (form-depth f) z} (dbl-mono d (form-atoms f′) z (p .1)) (λ g v. (omega arith, omega arith)) (runs-further _ _ f′ (t .in-compileform m f′ (omega arith))))
+        λ f″ w. runs-ret {n = 0} _ (omega arith, omega arith))
+    runs-rename-args-helperform (HD l i n x a b) h =
+        let y = sexp-atoms a in
+        let z = atoms b in
+        runs-more (omega (arith, dbl-twice d (y + z), dbl-add d y z, dbl-least d y))
+        (runs-bind (runs-invent-new-names-sexp [] a) λ m _. runs-bind (runs-child _ (runs-rename-in-cons-step true m a)) λ a′ u. runs-bind (runs-args-then-in d r s m b (omega arith)) λ b′ p. runs-ret {n = 0} _ (omega arith, omega arith))
+    runs-rename-args-helperform (HN l n x hs) h =
+        runs-more (omega (arith, dbl-twice d (helpers-atoms hs))) (runs-bind (runs-each-helper d (t .args-helperform) hs (omega arith)) λ hs′ p. runs-ret {n = 0} _ (omega arith, omega arith))
+    runs-rename-args-helperform (HR l n x) h = runs-ret _ (omega arith, omega arith)
+
+    runs-rename-in-helperform : (m : NameMap) → BoundedHelper (suc d) (rename-in-helperform F r q m)
+    unfolding rename-in-helperform helper-atoms helper-depth
+    runs-rename-in-helperform m (HC l n x b) h = runs-more (omega (arith, dbl-twice d (atoms b))) (runs-bind (runs-child _ (s .in-bodyform m b (omega arith))) λ b′ p. runs-ret {n = 0} _ (omega arith, omega arith))
+    runs-rename-in-helperform m (HM l n x a f) h =
+        runs-more (omega (arith, dbl-twice d (sexp-atoms a + form-atoms f), dbl-add d (sexp-atoms a) (form-atoms f)))
+        (runs-bind (runs-child _ (t .in-compileform m f (omega arith))) λ f′ p. runs-ret {n = 0} _ (omega arith, omega arith))
+    runs-rename-in-helperform m (HD l i n x a b) h =
+        runs-more (omega (arith, dbl-twice d (sexp-atoms a + atoms b), dbl-add d (sexp-atoms a) (atoms b)))
+        (runs-bind (runs-child _ (s .in-bodyform m b (omega arith))) λ b′ p. runs-ret {n = 0} _ (omega arith, omega arith))
+    runs-rename-in-helperform m (HN l n x hs) h = runs-ret _ (omega arith, omega arith)
+    runs-rename-in-helperform m (HR l n x) h = runs-ret _ (omega arith, omega arith)
+
+    runs-rename-args-compileform : BoundedForm (suc d) (rename-args-compileform F r q)
+    unfolding rename-args-compileform form-atoms form-depth
+    runs-rename-args-compileform (CF l x a hs b) h =
+        let w = sexp-atoms a in
+        let y = helpers-atoms hs in
+        let z = atoms b in
+        runs-more (omega (arith, dbl-twice d (w + (y + z)), dbl-add d w (y + z), dbl-add d y z, dbl-least d w))
+        (runs-bind (runs-invent-new-names-sexp [] a) λ m _. runs-bind (runs-child _ (runs-rename-in-cons-step true m a)) λ a′ u. runs-bind (runs-each-helper d (t .args-helperform) hs (omega arith)) λ hs′ p.
+        runs-bind (runs-child _ (s .args-bodyform b (omega arith))) λ b′ v.
+        runs-bind
+        (runs-weaken {P = SmallHelpers (helpers-depth hs′) (helpers-atoms hs′)} {Q = SmallHelpers (helpers-depth hs) y} (dbl-mono d (helpers-atoms hs′) y (p .1)) (λ k e. (omega arith, omega arith)) (runs-further-helpers d (t .in-helperform m) hs′ (omega arith)))
+        λ hs″ e. runs-bind (runs-further _ _ b′ (runs-in-bodyform d r s m b b′ (omega arith) v)) λ b″ g. runs-ret {n = 0} _ (omega arith, omega arith))
+
+    runs-rename-in-compileform : (m : NameMap) → BoundedForm (suc d) (rename-in-compileform F r q m)
+    unfolding rename-in-compileform form-atoms form-depth
+    runs-rename-in-compileform m (CF l x a hs b) h =
+        let w = sexp-atoms a in
+        let y = helpers-atoms hs in
+        let z = atoms b in
+        runs-more (omega (arith, dbl-twice d (w + (y + z)), dbl-add d w (y + z), dbl-add d y z))
+        (runs-bind (runs-each-helper d (t .in-helperform m) hs (omega arith)) λ hs′ p. runs-bind (runs-child _ (s .in-bodyform m b (omega arith))) λ b′ u. runs-ret {n = 0} _ (omega arith, omega arith))
+
+    runs-rename-children-compileform : BoundedForm (suc d) (rename-children-compileform F r q)
+    unfolding rename-children-compileform form-atoms form-depth
+    runs-rename-children-compileform (CF l x a hs b) h =
+        let w = sexp-atoms a in
+        let y = helpers-atoms hs in
+        let z = atoms b in
+        runs-more (omega (arith, dbl-twice d (w + (y + z)), dbl-add d w (y + z), dbl-add d y z))
+        (runs-bind (runs-each-helper d (t .args-helperform) hs (omega arith)) λ hs′ p. runs-bind (runs-child _ (s .args-bodyform b (omega arith))) λ b′ u. runs-ret {n = 0} _ (omega arith, omega arith))
+
+  -- the rules of helpers and forms
+  pub runs-form-walk : (fuel : ℕ) → BoundedForms fuel (form-walk F fuel)
+  unfolding form-walk form-rules
+  runs-form-walk zero = record {
+    args-helperform = λ x h. absurd (omega (arith, helper-positive x));
+    in-helperform = λ m x h. absurd (omega (arith, helper-positive x));
+    args-compileform = λ f h. absurd (omega (arith, form-positive f));
+    in-compileform = λ m f h. absurd (omega (arith, form-positive f));
+  }
+  runs-form-walk (suc fuel) =
+      let s = runs-walk fuel in
+      let t = runs-form-walk fuel in
+      record {
+        args-helperform = λ x h. runs-step _ (runs-rename-args-helperform fuel _ _ s t x h);
+        in-helperform = λ m x h. runs-step _ (runs-rename-in-helperform fuel _ _ s t m x h);
+        args-compileform = λ f h. runs-step _ (runs-rename-args-compileform fuel _ _ s t f h);
+        in-compileform = λ m f h. runs-step _ (runs-rename-in-compileform fuel _ _ s t m f h);
+      }
+
+  -- the walks of the three calls
+  pub whole-runs : BoundedForm level-limit (whole-walk F)
+  unfolding whole-walk
+  whole-runs f h = runs-form-walk level-limit .args-compileform f h
+
+  pub children-runs : BoundedForm level-limit (children-walk F)
+  unfolding children-walk
+  children-runs f h = runs-step _ (runs-rename-children-compileform (level-limit - 1) _ _ (runs-walk (level-limit - 1)) (runs-form-walk (level-limit - 1)) f h)
+
+  pub helper-runs : BoundedHelper level-limit (helper-walk F)
+  unfolding helper-walk
+  helper-runs x h = runs-form-walk level-limit .args-helperform x h
+
+-- the longest record times 2 to the deepest level
+abbrev pub most : ℕ
+most = 2 ^ 46
+
+most-draws : dbl level-limit most-longest ≡ most
+unfolding dbl
+most-draws = refl
+
+-- a call from the counter c, the assigns that it reaches, and its answer: no number above 8, and no counter that passes 64 bits
+pub record CallRuns (c : ℕ) (reached : List Visit) (r : Result) : Type 0 where
+  pub number : r .0 .number ≤ 8
+  pub counter : r .0 .counter ≤ c + most
+  pub inside : (e : Visit) → e is-in reached → e .counter ≤ c + most
+
+module _ {A : Type 0} (reader : Reader A) (walk-of : ℕ → A → M A) (bytes : A → Bytes) (deep count : A → ℕ)
+    (shallow : (input : Bytes) (a : A) (o : Option ℕ) → read-whole reader input ≡ whole a o → deep a ≤ level-limit)
+    (back : (input : Bytes) (a : A) (o : Option ℕ) → read-whole reader input ≡ whole a o → input ≡ bytes a)
+    (few : (a : A) → count a ≤ length (bytes a))
+    (s : (F : ℕ) (a : A) → deep a ≤ level-limit → Runs (dbl level-limit (count a)) (λ b. (deep b ≤ deep a) × (count b ≤ count a)) (walk-of F a)) where
+  bounded : (F work c : ℕ) (input : Bytes) (a : A) → OpenedFrom reader F c input a → Fine (dbl level-limit (count a)) (λ b. (deep b ≤ deep a) × (count b ≤ count a)) c (walk-of F a c 0)
+  bounded F work c input a q = s F a (shallow input a none (q .read)) .fine c 0
+
+  -- the walk of an input that is opened refuses with 5, 6 or 7 and nothing else
+  walk-refuses : (F work c : ℕ) (input : Bytes) (a : A) {log : List Visit} {n p : ℕ} → open-input reader F work c input ≡ opened a → walk-of F a c 0 ≡ refused log n p → WalkRefusal n
+  walk-refuses F work c input a e r =
+      let q : OpenedFrom reader F c input a = rw e at (start reader F work c input) in
+      let f = rw r at (bounded F work c input a q) in
+      f .1
+
+  call-runs : (F work c : ℕ) (input buffer : Bytes) → CallRuns c (visits-of reader walk-of F work c input) (rename-call reader walk-of bytes F work c input buffer)
+  unfolding visits-of rename-call visits answered refusal delivered
+  call-runs F work c input buffer = go (open-input reader F work c input) (start reader F work c input)
+    where
+      delivers : {log : List Visit} (b : Bytes) (c′ : ℕ) → All (Below (c + most)) log → c′ ≤ c + most → (t : Bool)
+          → CallRuns c log (elim t as (λ _. Result) [ true ↦ (record { number = 0; place = 0; counter = c′; rounds = 0; len = length b }, written b buffer) | false ↦ refusal c buffer 8 0 ])
+      delivers b c′ g h true = record { number = omega arith; counter = h; inside = λ e m. all-in g m }
+      delivers b c′ g h false = record { number = omega arith; counter = omega arith; inside = λ e m. all-in g m }
+
+      small : {m : ℕ} → WalkRefusal m → m ≤ 8
+      small (inl e) = omega arith
+      small (inr (inl e)) = omega arith
+      small (inr (inr e)) = omega arith
+
+      walked : (n : ℕ) (P : A → Type 0) → dbl level-limit n ≤ most → (o : Out A) → Fine (dbl level-limit n) P c o → CallRuns c (visits o) (answered bytes c buffer o)
+      walked n P l (done log b c′ h) f = delivers (bytes b) c′ (all-map (λ e q. omega arith) (f .0)) (omega (arith, f .1)) (leb (length (bytes b)) (length buffer))
+      walked n P l (refused log m p) f = record { number = small (f .1); counter = omega arith; inside = λ e m. omega (arith, all-in (f .0) m) }
+
+      go : (o : Opened A) → Start reader F work c input o
+          → CallRuns c (elim o [ closed n p ↦ [] | opened a ↦ visits (walk-of F a c 0) ]) (elim o as (λ _. Result) [ closed n p ↦ refusal c buffer n p | opened a ↦ answered bytes c buffer (walk-of F a c 0) ])
+      go (closed n p) q = record { number = omega arith; counter = omega arith; inside = λ e m. absurd (List·Memᴰ·not-nil m) }
+      go (opened a) q =
+          let h : count a ≤ most-longest = omega (arith, few a, ap length (back input a none (q .read))) in
+          walked (count a) _ (omega (arith, most-draws, dbl-mono level-limit (count a) most-longest h)) (walk-of F a c 0) (bounded F work c input a q)
+
+module _ (F work c : ℕ) (input buffer : Bytes) where
+  pub whole-call-runs : CallRuns c (whole-visits F work c input) (whole-call F work c input buffer)
+  unfolding whole-call whole-visits
+  whole-call-runs = call-runs _ whole-walk form-bytes form-depth form-atoms form-deep form-read-back few-form whole-runs F work c input buffer
+
+  pub children-call-runs : CallRuns c (children-visits F work c input) (children-call F work c input buffer)
+  unfolding children-call children-visits
+  children-call-runs = call-runs _ children-walk form-bytes form-depth form-atoms form-deep form-read-back few-form children-runs F work c input buffer
+
+  pub helper-call-runs : CallRuns c (helper-visits F work c input) (helper-call F work c input buffer)
+  unfolding helper-call helper-visits
+  helper-call-runs = call-runs _ helper-walk helper-bytes helper-depth helper-atoms helper-deep helper-read-back few-helper helper-runs F work c input buffer
+
+  -- once the walk has begun, it refuses with 5, 6 or 7 and nothing else
+  pub whole-refuses : (f : Form) {log : List Visit} {n p : ℕ} → open-input (readers level-limit .form) F work c input ≡ opened f → whole-walk F f c 0 ≡ refused log n p → WalkRefusal n
+  whole-refuses = walk-refuses _ whole-walk form-bytes form-depth form-atoms form-deep form-read-back few-form whole-runs F work c input
+
+  pub children-refuses : (f : Form) {log : List Visit} {n p : ℕ} → open-input (readers level-limit .form) F work c input ≡ opened f → children-walk F f c 0 ≡ refused log n p → WalkRefusal n
+  children-refuses = walk-refuses _ children-walk form-bytes form-depth form-atoms form-deep form-read-back few-form children-runs F work c input
+
+  pub helper-refuses : (x : Helper) {log : List Visit} {n p : ℕ} → open-input (readers level-limit .helper) F work c input ≡ opened x → helper-walk F x c 0 ≡ refused log n p → WalkRefusal n
+  helper-refuses = walk-refuses _ helper-walk helper-bytes helper-depth helper-atoms helper-deep helper-read-back few-helper helper-runs F work c input

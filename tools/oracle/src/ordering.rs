@@ -1,0 +1,126 @@
+//! The model's needs, provisions and exact order of an assign's bindings.
+
+use crate::records::{Binding, Body, Bytes, Kind, Lambda, Let, Pattern, Sexp};
+use std::collections::BTreeSet;
+
+pub type Names = BTreeSet<Bytes>;
+
+#[derive(Debug, PartialEq, Eq)]
+pub enum Outcome {
+    Ordered(Vec<usize>),
+    /// The indices that stay unplaced, in the row's sequence.
+    Deadlock(Vec<usize>),
+}
+
+pub fn order(bindings: &[Binding]) -> Outcome {
+    turns(bindings).0
+}
+
+/// The outcome, and the turns that it takes.
+pub fn turns(bindings: &[Binding]) -> (Outcome, u32) {
+    let has: Vec<Names> = bindings.iter().map(provisions).collect();
+    let needs: Vec<Names> = bindings.iter().map(|binding| needed(&binding.body, &has)).collect();
+    let mut row: Vec<usize> = (0..bindings.len()).collect();
+    let mut placed = 0;
+    let mut turns = 0;
+    while placed < row.len() {
+        turns += 1;
+        let done: Names = row[..placed].iter().flat_map(|index| has[*index].clone()).collect();
+        let picked: Vec<usize> = (placed..row.len()).filter(|position| needs[row[*position]].is_subset(&done)).collect();
+        if picked.is_empty() {
+            return (Outcome::Deadlock(row[placed..].to_vec()), turns);
+        }
+        for position in picked {
+            row.swap(position, placed);
+            placed += 1;
+        }
+    }
+    (Outcome::Ordered(row), turns)
+}
+
+fn provisions(binding: &Binding) -> Names {
+    let mut names = Names::new();
+    pattern_names(&binding.pattern, &mut names);
+    names
+}
+
+/// The names in a body's `to_sexp` that some binding of the same assign provides.
+fn needed(body: &Body, has: &[Names]) -> Names {
+    let mut words = Names::new();
+    body_words(body, &mut words);
+    words.into_iter().filter(|word| has.iter().any(|names| names.contains(word))).collect()
+}
+
+fn pattern_names(pattern: &Pattern, names: &mut Names) {
+    match pattern {
+        Pattern::Name(name) => word(name, names),
+        Pattern::Complex(sexp) => sexp_names(sexp, names),
+    }
+}
+
+fn word(bytes: &[u8], names: &mut Names) {
+    names.insert(bytes.to_vec());
+}
+
+fn sexp_names(sexp: &Sexp, names: &mut Names) {
+    match sexp {
+        Sexp::SN(_) => {}
+        Sexp::SC(_, head, tail) => {
+            sexp_names(head, names);
+            sexp_names(tail, names);
+        }
+        Sexp::SI(_, bytes) | Sexp::SQ(_, _, bytes) | Sexp::SA(_, bytes) => word(bytes, names),
+    }
+}
+
+fn body_words(body: &Body, names: &mut Names) {
+    match body {
+        Body::BL(data) => let_words(data, names),
+        Body::BF(data) => lambda_words(data, names),
+        Body::BQ(sexp) => {
+            word(b"q", names);
+            sexp_names(sexp, names);
+        }
+        Body::BV(sexp) => sexp_names(sexp, names),
+        Body::BC(_, elements, tail) => {
+            elements.iter().for_each(|element| body_words(element, names));
+            if let Some(tail) = tail {
+                word(b"&rest", names);
+                body_words(tail, names);
+            }
+        }
+        Body::BM(_, _) => unreachable!("refusal 4 keeps a BM out of every binding body"),
+    }
+}
+
+fn let_words(data: &Let, names: &mut Names) {
+    let marker: &[u8] = match data.kind {
+        Kind::Parallel => b"let",
+        Kind::Sequential => b"let*",
+        Kind::Assign => b"assign",
+    };
+    word(marker, names);
+    for binding in &data.bindings {
+        pattern_names(&binding.pattern, names);
+        body_words(&binding.body, names);
+    }
+    body_words(&data.body, names);
+}
+
+fn lambda_words(data: &Lambda, names: &mut Names) {
+    word(b"lambda", names);
+    if truthy(&data.capture_args) {
+        word(b"&", names);
+        sexp_names(&data.capture_args, names);
+    }
+    sexp_names(&data.args, names);
+    body_words(&data.body, names);
+}
+
+fn truthy(sexp: &Sexp) -> bool {
+    match sexp {
+        Sexp::SN(_) => false,
+        Sexp::SC(_, _, _) => true,
+        Sexp::SI(_, bytes) | Sexp::SQ(_, _, bytes) | Sexp::SA(_, bytes) => bytes.iter().any(|byte| *byte != 0),
+    }
+}
