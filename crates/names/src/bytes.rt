@@ -1,8 +1,8 @@
-// Bytes compared, written and read at a place.
+// Bytes compared, written, read and moved at a place.
 ghost use mathlib.Core.Path.{_≡_};
 ghost use Prim.Native.Nat.{_+_, _^_, _≤_, _<_};
 ghost use lib.ListN.{length, take, drop};
-ghost use Rattle.names.specs.Names.{same, number-of};
+ghost use Rattle.names.specs.Names.{same, number-field, number-of};
 ghost use Rattle.names.specs.Segments.{Filled};
 
 // Whether two names are equal.
@@ -61,4 +61,42 @@ pub fn number(s: &[u8], at: usize, width: usize) -> usize
         i += 1;
     }
     n
+}
+
+// Copies n bytes to a later place that does not overlap them.
+pub fn copy(mem: &mut [u8], from: usize, to: usize, n: usize)
+    requires { ⌜ (from + n ≤ to) × (to + n ≤ length (now mem)) ⌝ }
+    ensures { λ _. ⌜ Filled (now (mem .entry)) (now (mem .exit)) to (drop from (now (mem .entry))) n ⌝ }
+{
+    let mut i = 0;
+    while i < n {
+        mem[to + i] = mem[from + i];
+        i += 1;
+    }
+}
+
+// Moves n bytes down; the two places may overlap, so the first byte goes first.
+pub fn slide(mem: &mut [u8], from: usize, to: usize, n: usize)
+    requires { ⌜ (to ≤ from) × (from + n ≤ length (now mem)) ⌝ }
+    ensures { λ _. ⌜ Filled (now (mem .entry)) (now (mem .exit)) to (drop from (now (mem .entry))) n ⌝ }
+{
+    let mut done = 0;
+    while done < n {
+        mem[to + done] = mem[from + done];
+        done += 1;
+    }
+}
+
+// Writes a number in `width` bytes at a place, the last byte first.
+pub fn put_number(mem: &mut [u8], at: usize, width: usize, n: usize)
+    requires { ⌜ (at + width ≤ length (now mem)) × (n < 256 ^ width) ⌝ }
+    ensures { λ _. ⌜ Filled (now (mem .entry)) (now (mem .exit)) at (number-field width n) width ⌝ }
+{
+    let mut left = n;
+    let mut done = 0;
+    while done < width {
+        done += 1;
+        mem[at + width - done] = (left % 256) as u8;
+        left /= 256;
+    }
 }

@@ -6,14 +6,15 @@ use mathlib.Core.Option.{Option}
 use Prim.Native.Nat.{ℕ, zero, suc, _+_, _-_, _≤_, max}
 use Prim.Native.String.{String}
 use native.Mathlib.Omega.{arith}
-use lib.Dec.{leb, T, leb→le}
+use lib.Dec.{leb, eqb, leb→le}
 use lib.ListN.{length}
 use Rattle.names.specs.Names.{Bytes, ascii, same}
-use Rattle.records.specs.Records.{Kind, Parallel, Sequential, Assign, Body, Binding, Helper, Form, to-bodies, to-bindings, to-helpers, bindings-count}
+use Rattle.records.specs.Records.{Kind, Parallel, Sequential, Assign, Body, Binding, Helper, Form, to-bodies, to-bindings, to-helpers}
 use Rattle.records.specs.Depth.{levels, depth, bodies-depth, tail-depth, binding-depth, bindings-depth, helper-depth, helpers-depth, form-depth}
-use Rattle.records.proofs.Readers.{Any, not-done, same-value, reads-whole}
+use Rattle.records.proofs.Readers.{Any, not-done, same-value, T-of, reads-whole}
+use Rattle.records.proofs.Exact.{bindings-counted}
 use Rattle.records.specs.Limits.{level-limit}
-use Rattle.records.specs.Read.{Zone, Context, Input, Fault, malformed, over-limit, Read, done, refused, Reader, _>>=_, _>>_, ret, refuse, times, deeper, in-lambda, in-zone, in-bindings, bytes, choose, marked, kind-of, more-levels, binding, let-of, tail-after, call-tail, Readers, body-rule, helper-rule, form-rule, rules, readers, whole, read-whole}
+use Rattle.records.specs.Read.{Zone, Context, Input, Fault, malformed, over-limit, Read, done, refused, Reader, _>>=_, _>>_, ret, refuse, check, times, deeper, in-lambda, in-zone, in-bindings, bytes, choose, marked, kind-of, more-levels, binding, let-of, tail-after, call-tail, Readers, body-rule, helper-rule, form-rule, rules, readers, assign-of, whole, read-whole}
 
 -- in a context with room n each result has P
 pub record Gives {A : Type 0} (n : ℕ) (P : A → Type 0) (m : Reader A) : Type 0 where
@@ -43,13 +44,21 @@ weaken : {A : Type 0} {n : ℕ} {P Q : A → Type 0} {m : Reader A} → ((a : A)
 weaken h s = record { gives = λ c i a j q e. h a (s .gives c i a j q e) }
 
 module _ {A : Type 0} {P : A → Type 0} {m : Reader A} where
+  gives-check : (n : ℕ) (x : Fault) (ok : Bool) → Gives n P m → Gives n P (check x ok m)
+  unfolding check
+  gives-check n x ok s = record { gives = λ c i b j q h. go c i b j q ok h }
+    where
+      go : (c : Context) (i : Input) (b : A) (j : Input) → c .room ≡ n → (o : Bool) → _≡_ {A = Read A} (elim o [ true ↦ m c i | false ↦ refused x (c .mark) ]) (done b j) → P b
+      go c i b j q true h = s .gives c i b j q h
+      go c i b j q false h = absurd (not-done h)
+
   gives-deeper : (n k : ℕ) → (k ≤ n → Gives (n - k) P m) → Gives n P (deeper k m)
   unfolding deeper
   gives-deeper n k s = record { gives = λ c i b j q h. go c i b j q (leb k (c .room)) refl h }
     where
       go : (c : Context) (i : Input) (b : A) (j : Input) → c .room ≡ n → (o : Bool) → leb k (c .room) ≡ o
           → _≡_ {A = Read A} (elim o [ true ↦ m (record { mark = c .mark; room = c .room - k; lambdas = c .lambdas; zone = c .zone }) i | false ↦ refused over-limit (c .mark) ]) (done b j) → P b
-      go c i b j q true e h = s (let t : T (leb k (c .room)) = rw e tt in omega (arith, leb→le k (c .room) t)) .gives _ i b j (ap (λ (x : ℕ). x - k) q) h
+      go c i b j q true e h = s (omega (arith, leb→le k (c .room) (T-of e))) .gives _ i b j (ap (λ (x : ℕ). x - k) q) h
       go c i b j q false e h = absurd (not-done h)
 
   gives-in-lambda : (n : ℕ) → Gives n P m → Gives n P (in-lambda m)
@@ -113,21 +122,16 @@ unfolding bindings-depth to-bindings
 bindings-deepest [] = refl
 bindings-deepest (b ∷ bs) = ap (λ (n : ℕ). max (binding-depth b) n) (bindings-deepest bs)
 
-bindings-counted : (l : List Binding) → bindings-count (to-bindings l) ≡ length l
-unfolding bindings-count to-bindings
-bindings-counted [] = refl
-bindings-counted (b ∷ bs) = ap suc (bindings-counted bs)
-
 helpers-deepest : (l : List Helper) → helpers-depth (to-helpers l) ≡ deepest helper-depth l
 unfolding helpers-depth to-helpers
 helpers-deepest [] = refl
 helpers-deepest (b ∷ bs) = ap (λ (n : ℕ). max (helper-depth b) n) (helpers-deepest bs)
 
-levels-more : (k : Kind) (n : ℕ) → levels k n ≤ 1 + more-levels k n
+pub levels-split : (k : Kind) (n : ℕ) → levels k n ≡ 1 + more-levels k n
 unfolding levels more-levels
-levels-more Parallel n = omega arith
-levels-more Sequential n = omega arith
-levels-more Assign n = omega arith
+levels-split Parallel n = refl
+levels-split Sequential n = omega arith
+levels-split Assign n = refl
 
 pub record Deep (r : Readers) : Type 0 where
   pub body : (n : ℕ) → Gives n (λ b. depth b ≤ n) (r .body)
@@ -152,7 +156,7 @@ module _ (r : Readers) (d : Deep r) where
   unfolding let-of depth
   gives-let-of n k = gives-bind any λ l _. gives-bind any λ w _. gives-bind any λ h _. gives-bind any λ c _. gives-deeper n (more-levels k c)
       λ room. gives-bind (gives-in-bindings _ k (gives-times binding-depth c (gives-binding _))) λ bs t. gives-bind (d .body _) λ b q.
-      gives-ret _ (omega (arith, bindings-deepest bs, t .deep, levels-more k c, ap (levels k) (bindings-counted bs ∙ t .long)))
+      gives-ret _ (omega (arith, bindings-deepest bs, t .deep, levels-split k c, ap (levels k) (bindings-counted bs ∙ t .long)))
 
   gives-body-rule : (n : ℕ) → Gives n (λ b. depth b ≤ n) (body-rule r)
   unfolding body-rule depth _>>_
@@ -203,3 +207,12 @@ form-deep = whole-deep form-depth (deep-readers level-limit .form level-limit)
 
 pub helper-deep : (input : Bytes) (a : Helper) (o : Option ℕ) → read-whole (readers level-limit .helper) input ≡ whole a o → helper-depth a ≤ level-limit
 helper-deep = whole-deep helper-depth (deep-readers level-limit .helper level-limit)
+
+gives-assign-of : Gives level-limit (λ b. depth b ≤ level-limit) assign-of
+unfolding assign-of
+gives-assign-of = gives-marked (also
+    (gives-deeper level-limit 1 λ h. gives-bind any λ k _. gives-check (level-limit - 1) malformed (eqb k 2) (gives-let-of _ (deep-readers (level-limit - 1)) (level-limit - 1) Assign))
+    none-left)
+
+pub assign-deep : (input : Bytes) (a : Body) (o : Option ℕ) → read-whole assign-of input ≡ whole a o → depth a ≤ level-limit
+assign-deep = whole-deep depth gives-assign-of

@@ -3,105 +3,107 @@ use mathlib.Core.Path.{_≡_, refl, ap, sym, _∙_, subst}
 use mathlib.Core.Bool.{Bool, true, false}
 use mathlib.Core.Option.{Option}
 use mathlib.Core.List.{List, [], _∷_, _++_, flatten, append-assoc, append-nil}
-use Prim.Native.Nat.{ℕ, zero, suc, _+_, _-_, _*_, _≤_}
+use Prim.Native.Nat.{ℕ, zero, suc, _+_, _-_, _≤_}
 use Prim.Native.String.{String}
 use native.Mathlib.Nat.{zero-add, div-one}
 use native.Mathlib.Omega.{arith}
-use lib.Dec.{leb, eqb, T, leb→le, eqb→eq}
-use lib.ListN.{length}
-use Rattle.names.specs.Names.{Bytes, ascii, same, number-field, number-of, number-after, name-width, name-field}
+use lib.Dec.{leb, eqb, leb→le, eqb→eq}
+use lib.ListN.{length, length-append, drop}
+use lib.Seq.{drop-append-seam}
+use Rattle.names.specs.Names.{Bytes, ascii, same, number-field, number-of, number-after, name-field}
 use Rattle.names.proofs.Same.{same→eq}
 use Rattle.records.specs.Limits.{level-limit, cons-limit, count-limit}
-use Rattle.records.proofs.Readers.{Any, not-done, same-value, reads-whole}
+use Rattle.records.proofs.Readers.{Any, not-done, same-value, same-input, T-of, reads-whole}
 use Rattle.records.specs.Records.{byte, loc-width, raw-width, integer-field, Sexp, SN, SC, SI, SQ, SA, sexp-bytes, record-bytes, Kind, Assign, kind-field, Name, Complex, pattern-field, Body, BL, BQ, BV, BC, BM, BF, body-bytes, bodies-bytes, tail-bytes, no-tail, tail, Binding, BB, binding-bytes, bindings-bytes, Helper, HC, HM, HD, HN, HR, helper-bytes, helpers-bytes, Form, CF, form-bytes, to-bodies, to-bindings, to-helpers, bodies-count, bindings-count, helpers-count}
-use Rattle.records.specs.Read.{Zone, Context, Input, Fault, malformed, over-limit, Read, done, refused, Reader, _>>=_, ret, refuse, check, times, deeper, in-lambda, in-zone, next, bytes, choose, marked, loc, name, raw-field, integer, up-to, with-loc, keyword, hint, count, shortest, sexp-rule, sexp-at, sexp, _>>_, note, Readers, kind-of, more-levels, in-bindings, pattern-after, pattern-of, binding, let-of, tail-after, call-tail, body-rule, helper-rule, form-rule, rules, readers, assign-of, whole, read-whole}
+use Rattle.records.specs.Read.{Zone, Context, Input, Fault, malformed, over-limit, Read, done, refused, Reader, _>>=_, ret, refuse, check, times, deeper, in-lambda, in-zone, next, bytes, choose, marked, loc, counted, name, raw-field, integer, at-most, up-to, with-loc, optional-loc, keyword, hint, count, shortest, sexp-rule, cons-rule, sexp-at, sexp, _>>_, note, Readers, kind-of, more-levels, in-bindings, pattern-after, pattern-of, binding, let-of, tail-after, call-tail, body-rule, helper-rule, form-rule, rules, readers, assign-of, whole, read-whole}
+
+-- from i, after the bytes `pre` of the same record, to j stands what f writes of a; a has P; the offset has gone on by what was taken
+abbrev pub Taken : {A : Type 0} → (A → Type 0) → (A → Bytes) → Bytes → Input → A → Input → Type 0
+Taken P f pre i a j = (pre ++ i .rest ≡ f a ++ j .rest) × P a × (length pre + j .offset ≡ length (f a) + i .offset)
 
 -- after the bytes `pre` of the same record, m takes what f writes of its result; and each result has P
 pub record Exact {A : Type 0} (P : A → Type 0) (f : A → Bytes) (pre : Bytes) (m : Reader A) : Type 0 where
-  pub takes : (c : Context) (i : Input) (a : A) (j : Input) → m c i ≡ done a j → (pre ++ i .rest ≡ f a ++ j .rest) × P a
+  pub takes : (c : Context) (i : Input) (a : A) (j : Input) → m c i ≡ done a j → Taken P f pre i a j
 
-same-input : {A : Type 0} {a b : A} {i j : Input} → _≡_ {A = Read A} (done a i) (done b j) → i ≡ j
-same-input e = cc
-
-exact-ret : {A : Type 0} {P : A → Type 0} {f : A → Bytes} {pre : Bytes} (a : A) → P a → pre ≡ f a → Exact P f pre (ret a)
+pub exact-ret : {A : Type 0} {P : A → Type 0} {f : A → Bytes} {pre : Bytes} (a : A) → P a → pre ≡ f a → Exact P f pre (ret a)
 unfolding ret
-exact-ret {P} {f} {pre} a p e = record { takes = λ c i b j h. (cc (e, same-value h, same-input h), subst P (same-value h) p) }
+exact-ret {P} {f} {pre} a p e = record { takes = λ c i b j h. (cc (e, same-value h, same-input h), subst P (same-value h) p, cc (e, same-value h, same-input h)) }
 
-exact-refuse : {A : Type 0} {P : A → Type 0} {f : A → Bytes} {pre : Bytes} (n : Fault) → Exact P f pre (refuse n)
+pub exact-refuse : {A : Type 0} {P : A → Type 0} {f : A → Bytes} {pre : Bytes} (n : Fault) → Exact P f pre (refuse n)
 unfolding refuse
 exact-refuse n = record { takes = λ c i b j h. absurd (not-done h) }
 
 module _ {A B : Type 0} {Q : A → Type 0} {g : A → Bytes} {P : B → Type 0} {f : B → Bytes} {pre : Bytes} {m : Reader A} {k : A → Reader B} where
-  exact-bind : Exact Q g [] m → ((a : A) → Q a → Exact P f (pre ++ g a) (k a)) → Exact P f pre (m >>= k)
+  pub exact-bind : Exact Q g [] m → ((a : A) → Q a → Exact P f (pre ++ g a) (k a)) → Exact P f pre (m >>= k)
   unfolding _>>=_
   exact-bind em ek = record { takes = λ c i b j h. go c i b j (m c i) refl h }
     where
       go : (c : Context) (i : Input) (b : B) (j : Input) (r : Read A) → m c i ≡ r
-          → _≡_ {A = Read B} (elim r [ done a l ↦ k a c l | refused n p ↦ refused n p ]) (done b j) → (pre ++ i .rest ≡ f b ++ j .rest) × P b
+          → _≡_ {A = Read B} (elim r [ done a l ↦ k a c l | refused n p ↦ refused n p ]) (done b j) → Taken P f pre i b j
       go c i b j (done a l) e h =
           let t = em .takes c i a l e in
           let u = ek a (t .1) .takes c l b j h in
-          (ap (λ (x : Bytes). pre ++ x) (t .0) ∙ sym (append-assoc pre (g a) (l .rest)) ∙ u .0, u .1)
+          (ap (λ (x : Bytes). pre ++ x) (t .0) ∙ sym (append-assoc pre (g a) (l .rest)) ∙ u .0, u .1, omega (arith, t .2, u .2, length-append pre (g a)))
       go c i b j (refused n p) e h = absurd (not-done h)
 
 module _ {A : Type 0} {P : A → Type 0} {f : A → Bytes} {pre : Bytes} {m : Reader A} where
-  exact-check : (n : Fault) (ok : Bool) → (ok ≡ true → Exact P f pre m) → Exact P f pre (check n ok m)
+  pub exact-check : (n : Fault) (ok : Bool) → (ok ≡ true → Exact P f pre m) → Exact P f pre (check n ok m)
   unfolding check
   exact-check n ok e = record { takes = λ c i b j h. go c i b j ok refl h }
     where
       go : (c : Context) (i : Input) (b : A) (j : Input) (o : Bool) → ok ≡ o
-          → _≡_ {A = Read A} (elim o [ true ↦ m c i | false ↦ refused n (c .mark) ]) (done b j) → (pre ++ i .rest ≡ f b ++ j .rest) × P b
+          → _≡_ {A = Read A} (elim o [ true ↦ m c i | false ↦ refused n (c .mark) ]) (done b j) → Taken P f pre i b j
       go c i b j true q h = e q .takes c i b j h
       go c i b j false q h = absurd (not-done h)
 
-  exact-deeper : (n : ℕ) → Exact P f pre m → Exact P f pre (deeper n m)
+  pub exact-deeper : (n : ℕ) → Exact P f pre m → Exact P f pre (deeper n m)
   unfolding deeper
   exact-deeper n e = record { takes = λ c i b j h. go c i b j (leb n (c .room)) h }
     where
       go : (c : Context) (i : Input) (b : A) (j : Input) (o : Bool)
           → _≡_ {A = Read A} (elim o [ true ↦ m (record { mark = c .mark; room = c .room - n; lambdas = c .lambdas; zone = c .zone }) i | false ↦ refused over-limit (c .mark) ]) (done b j)
-          → (pre ++ i .rest ≡ f b ++ j .rest) × P b
+          → Taken P f pre i b j
       go c i b j true h = e .takes _ i b j h
       go c i b j false h = absurd (not-done h)
 
-  exact-in-lambda : Exact P f pre m → Exact P f pre (in-lambda m)
+  pub exact-in-lambda : Exact P f pre m → Exact P f pre (in-lambda m)
   unfolding in-lambda
   exact-in-lambda e = record { takes = λ c i b j h. go c i b j (leb 1 (c .lambdas)) h }
     where
       go : (c : Context) (i : Input) (b : A) (j : Input) (o : Bool)
           → _≡_ {A = Read A} (elim o [ true ↦ m (record { mark = c .mark; room = c .room; lambdas = c .lambdas - 1; zone = c .zone }) i | false ↦ refused over-limit (c .mark) ]) (done b j)
-          → (pre ++ i .rest ≡ f b ++ j .rest) × P b
+          → Taken P f pre i b j
       go c i b j true h = e .takes _ i b j h
       go c i b j false h = absurd (not-done h)
 
-  exact-in-zone : (z : Zone) → Exact P f pre m → Exact P f pre (in-zone z m)
+  pub exact-in-zone : (z : Zone) → Exact P f pre m → Exact P f pre (in-zone z m)
   unfolding in-zone
   exact-in-zone z e = record { takes = λ c i b j h. e .takes _ i b j h }
 
 -- m stands last
-exact-last : {A : Type 0} {P Q : A → Type 0} {f g : A → Bytes} {pre : Bytes} {m : Reader A} → ((a : A) → P a → pre ++ g a ≡ f a) → ((a : A) → P a → Q a) → Exact P g [] m → Exact Q f pre m
+pub exact-last : {A : Type 0} {P Q : A → Type 0} {f g : A → Bytes} {pre : Bytes} {m : Reader A} → ((a : A) → P a → pre ++ g a ≡ f a) → ((a : A) → P a → Q a) → Exact P g [] m → Exact Q f pre m
 exact-last {g} {pre} s q e = record {
   takes = λ c i b j h.
       let t = e .takes c i b j h in
-      (ap (λ (x : Bytes). pre ++ x) (t .0) ∙ sym (append-assoc pre (g b) (j .rest)) ∙ ap (λ (x : Bytes). x ++ j .rest) (s b (t .1)), q b (t .1));
+      (ap (λ (x : Bytes). pre ++ x) (t .0) ∙ sym (append-assoc pre (g b) (j .rest)) ∙ ap (λ (x : Bytes). x ++ j .rest) (s b (t .1)), q b (t .1), omega (arith, t .2, length-append pre (g b), ap length (s b (t .1))));
 }
 
-exact-next : Exact Any byte [] next
+pub exact-next : Exact Any byte [] next
 unfolding next byte
 exact-next = record { takes = λ c i b j h. go c i b j (i .rest) refl h }
   where
     go : (c : Context) (i : Input) (b : ℕ) (j : Input) (r : Bytes) → i .rest ≡ r
         → _≡_ {A = Read ℕ} (elim r [ [] ↦ refused malformed (c .mark) | x ∷ xs ↦ done x (record { offset = i .offset + 1; rest = xs; first-mod = i .first-mod }) ]) (done b j)
-        → (i .rest ≡ b ∷ j .rest) × Unit {0}
+        → Taken Any byte [] i b j
     go c i b j [] e h = absurd (not-done h)
-    go c i b j (x ∷ xs) e h = (cc (e, same-value h, ap (λ (l : Input). l .rest) (same-input h)), tt)
+    go c i b j (x ∷ xs) e h = (cc (e, same-value h, ap (λ (l : Input). l .rest) (same-input h)), tt, omega (arith, ap (λ (l : Input). l .offset) (same-input h)))
 
 -- what g writes of each
 abbrev pub each : {A : Type 0} → (A → Bytes) → List A → Bytes
 each g [] = []
 each g (a ∷ as′) = g a ++ each g as′
 
-exact-times : {A : Type 0} {P : A → Type 0} {g : A → Bytes} {m : Reader A} (n : ℕ) → Exact P g [] m → Exact (λ l. length l ≡ n) (each g) [] (times n m)
+pub exact-times : {A : Type 0} {P : A → Type 0} {g : A → Bytes} {m : Reader A} (n : ℕ) → Exact P g [] m → Exact (λ l. length l ≡ n) (each g) [] (times n m)
 unfolding times
 exact-times zero e = exact-ret [] refl refl
 exact-times (suc n) e = exact-bind e λ a p. exact-bind (exact-times n e) λ l q. exact-ret (a ∷ l) (ap suc q) refl
@@ -115,58 +117,62 @@ each-byte (x ∷ xs) = ap (λ (r : Bytes). x ∷ r) (each-byte xs)
 abbrev pub raw : Bytes → Bytes
 raw l = l
 
-exact-bytes : (n : ℕ) → Exact (λ l. length l ≡ n) raw [] (bytes n)
+pub exact-bytes : (n : ℕ) → Exact (λ l. length l ≡ n) raw [] (bytes n)
 unfolding bytes
 exact-bytes n = exact-last (λ l q. each-byte l) (λ l q. q) (exact-times n exact-next)
 
-exact-loc : Exact (λ l. length l ≡ loc-width) raw [] loc
-unfolding loc
+pub exact-loc : Exact (λ l. length l ≡ loc-width) raw [] loc
 exact-loc = exact-bytes loc-width
 
--- a name's length is read as it is written
-length-back : (b : Bytes) → length b ≡ name-width → number-field name-width (number-of b) ≡ b
+-- a length of one byte is read as it is written
+length-back : (b : Bytes) → length b ≡ 1 → number-field 1 (number-of b) ≡ b
 unfolding number-field number-of number-after
 length-back [] q = absurd (omega arith)
 length-back (x ∷ []) q = ap (λ (n : ℕ). n ∷ []) (div-one _ ∙ zero-add x)
 length-back (x ∷ y ∷ b) q = absurd (omega arith)
 
-exact-name : Exact Any name-field [] name
-unfolding name name-field
-exact-name =
-    exact-bind (exact-bytes name-width) λ b p.
-    exact-last (λ l q. ap (λ (x : Bytes). x ++ l) (sym (ap (number-field name-width) q ∙ length-back b p))) (λ l q. tt) (exact-bytes (number-of b))
+pub exact-counted : Exact Any (λ l. number-field 1 (length l) ++ l) [] (counted 1)
+unfolding counted
+exact-counted =
+    exact-bind (exact-bytes 1) λ b p.
+    exact-last (λ l q. ap (λ (x : Bytes). x ++ l) (sym (ap (number-field 1) q ∙ length-back b p))) (λ l q. tt) (exact-bytes (number-of b))
 
-exact-integer : Exact Any integer-field [] integer
-unfolding integer integer-field byte
-exact-integer = exact-bind exact-next λ n p. exact-last (λ l q. ap (λ (k : ℕ). k ∷ l) (sym q)) (λ l q. tt) (exact-bytes n)
+pub exact-name : Exact Any name-field [] name
+unfolding name-field
+exact-name = exact-counted
 
-exact-raw-field : Exact Any raw [] raw-field
+pub exact-integer : Exact Any integer-field [] integer
+unfolding integer integer-field
+exact-integer = exact-bind exact-counted λ v p. exact-check malformed (shortest v) (λ q. exact-ret v tt refl)
+
+pub exact-raw-field : Exact Any raw [] raw-field
 unfolding raw-field
 exact-raw-field = exact-bind (exact-bytes raw-width) λ b p. exact-bind (exact-bytes (number-of b)) λ bs q. exact-ret (b ++ bs) tt refl
 
-exact-up-to : (n : ℕ) → Exact (λ b. leb b n ≡ true) byte [] (up-to n)
-unfolding up-to
-exact-up-to n = exact-bind exact-next λ b p. exact-check malformed (leb b n) (λ q. exact-ret b q refl)
+pub exact-at-most : (f : Fault) (n : ℕ) → Exact (λ b. leb b n ≡ true) byte [] (at-most f n)
+unfolding at-most
+exact-at-most f n = exact-bind exact-next λ b p. exact-check f (leb b n) (λ q. exact-ret b q refl)
+
+pub exact-up-to : (n : ℕ) → Exact (λ b. leb b n ≡ true) byte [] (up-to n)
+exact-up-to n = exact-at-most malformed n
 
 exact-with-loc : (more : Bool) (b : ℕ) → Exact Any raw (byte b) (with-loc more b)
 unfolding with-loc byte
 exact-with-loc true b = exact-bind exact-loc λ l p. exact-ret (b ∷ l) tt refl
 exact-with-loc false b = exact-ret (b ∷ []) tt refl
 
-exact-keyword : Exact Any raw [] keyword
-unfolding keyword
-exact-keyword = exact-bind (exact-up-to 1) λ b p. exact-with-loc (eqb b 1) b
+pub exact-optional-loc : (least n : ℕ) → Exact Any raw [] (optional-loc least n)
+unfolding optional-loc
+exact-optional-loc least n = exact-bind (exact-up-to n) λ b p. exact-with-loc (leb least b) b
 
-exact-hint : Exact Any raw [] hint
-unfolding hint
-exact-hint = exact-bind (exact-up-to 3) λ b p. exact-with-loc (leb 2 b) b
+pub exact-keyword : Exact Any raw [] keyword
+exact-keyword = exact-optional-loc 1 1
 
-exact-count : Exact Any byte [] count
-unfolding count
-exact-count = exact-bind exact-next λ n p. exact-check over-limit (leb n count-limit) (λ q. exact-ret n tt refl)
+pub exact-hint : Exact Any raw [] hint
+exact-hint = exact-optional-loc 2 3
 
-T-of : {b : Bool} → b ≡ true → T b
-T-of e = rw e tt
+pub exact-count : Exact (λ b. leb b count-limit ≡ true) byte [] count
+exact-count = exact-at-most over-limit count-limit
 
 -- each alternative, after its mark
 pub data Alternatives {A : Type 0} (P : A → Type 0) (f : A → Bytes) : List (String × Reader A) → Type 0 where
@@ -194,13 +200,13 @@ unfolding sexp-rule sexp-bytes record-bytes flatten
 exact-sexp-rule cons e = exact-marked
     (also (exact-bind exact-loc λ l p. exact-ret (SN l) tt (simp append-nil))
     (also e
-    (also (exact-bind exact-loc λ l p. exact-bind exact-integer λ v q. exact-check malformed (shortest v) (λ r. exact-ret (SI l v) tt (simp (append-assoc, append-nil))))
+    (also (exact-bind exact-loc λ l p. exact-bind exact-integer λ v q. exact-ret (SI l v) tt (simp (append-assoc, append-nil)))
     (also (exact-bind exact-loc λ l p. exact-bind exact-next λ x q. exact-bind exact-name λ n r. exact-ret (SQ l x n) tt (simp (append-assoc, append-nil)))
     (also (exact-bind exact-loc λ l p. exact-bind exact-name λ n q. exact-ret (SA l n) tt (simp (append-assoc, append-nil)))
     none-left)))))
 
-exact-sexp-at : (d : ℕ) → Exact Any sexp-bytes [] (sexp-at d)
-unfolding sexp-at sexp-bytes record-bytes flatten
+pub exact-sexp-at : (d : ℕ) → Exact Any sexp-bytes [] (sexp-at d)
+unfolding sexp-at cons-rule sexp-bytes record-bytes flatten
 exact-sexp-at zero = exact-sexp-rule _ (exact-refuse over-limit)
 exact-sexp-at (suc d) = exact-sexp-rule _
     (exact-bind exact-loc λ l p. exact-bind (exact-sexp-at d) λ h q. exact-bind (exact-sexp-at d) λ t r. exact-ret (SC l h t) tt (simp (append-assoc, append-nil)))
@@ -224,7 +230,7 @@ unfolding pattern-after pattern-field byte
 exact-pattern-after zero e = exact-bind exact-name λ n p. exact-ret (Name n) tt refl
 exact-pattern-after (suc b) e = exact-bind exact-sexp λ s p. exact-ret (Complex s) tt (ap (λ (k : ℕ). k ∷ sexp-bytes s) (one b e))
 
-exact-pattern-of : Exact Any pattern-field [] pattern-of
+pub exact-pattern-of : Exact Any pattern-field [] pattern-of
 unfolding pattern-of
 exact-pattern-of = exact-bind (exact-up-to 1) λ b p. exact-pattern-after b p
 
@@ -233,7 +239,7 @@ unfolding tail-after tail-bytes byte
 exact-tail-after e zero h = exact-ret no-tail tt refl
 exact-tail-after e (suc b) h = exact-bind e λ t p. exact-ret (tail t) tt (ap (λ (k : ℕ). k ∷ body-bytes t) (one b h))
 
-exact-call-tail : {m : Reader Body} → Exact Any body-bytes [] m → Exact Any tail-bytes [] (call-tail m)
+pub exact-call-tail : {m : Reader Body} → Exact Any body-bytes [] m → Exact Any tail-bytes [] (call-tail m)
 unfolding call-tail
 exact-call-tail e = exact-bind (exact-up-to 1) λ b p. exact-tail-after e b p
 
@@ -243,7 +249,7 @@ unfolding bindings-bytes to-bindings
 bindings-back [] = refl
 bindings-back (b ∷ bs) = ap (λ (x : Bytes). binding-bytes b ++ x) (bindings-back bs)
 
-bindings-counted : (l : List Binding) → bindings-count (to-bindings l) ≡ length l
+pub bindings-counted : (l : List Binding) → bindings-count (to-bindings l) ≡ length l
 unfolding bindings-count to-bindings
 bindings-counted [] = refl
 bindings-counted (b ∷ bs) = ap suc (bindings-counted bs)
@@ -253,7 +259,7 @@ unfolding bodies-bytes to-bodies
 bodies-back [] = refl
 bodies-back (b ∷ bs) = ap (λ (x : Bytes). body-bytes b ++ x) (bodies-back bs)
 
-bodies-counted : (l : List Body) → bodies-count (to-bodies l) ≡ length l
+pub bodies-counted : (l : List Body) → bodies-count (to-bodies l) ≡ length l
 unfolding bodies-count to-bodies
 bodies-counted [] = refl
 bodies-counted (b ∷ bs) = ap suc (bodies-counted bs)
@@ -263,7 +269,7 @@ unfolding helpers-bytes to-helpers
 helpers-back [] = refl
 helpers-back (b ∷ bs) = ap (λ (x : Bytes). helper-bytes b ++ x) (helpers-back bs)
 
-helpers-counted : (l : List Helper) → helpers-count (to-helpers l) ≡ length l
+pub helpers-counted : (l : List Helper) → helpers-count (to-helpers l) ≡ length l
 unfolding helpers-count to-helpers
 helpers-counted [] = refl
 helpers-counted (b ∷ bs) = ap suc (helpers-counted bs)
@@ -271,22 +277,22 @@ helpers-counted (b ∷ bs) = ap suc (helpers-counted bs)
 -- a set for what is left at the end of a record
 ruleset fields = (append-assoc, append-nil, bindings-back, bindings-counted, bodies-back, bodies-counted, helpers-back, helpers-counted)
 
-exact-binding : {m : Reader Body} → Exact Any body-bytes [] m → Exact Any binding-bytes [] (binding m)
+pub exact-binding : {m : Reader Body} → Exact Any body-bytes [] m → Exact Any binding-bytes [] (binding m)
 unfolding binding binding-bytes record-bytes flatten
 exact-binding e = exact-marked (also
     (exact-bind exact-loc λ l p. exact-bind exact-loc λ nl q. exact-bind exact-pattern-of λ x r. exact-bind e λ b s. exact-ret (BB l nl x b) tt (simp fields))
     none-left)
 
-exact-in-bindings : {A : Type 0} {P : A → Type 0} {f : A → Bytes} {pre : Bytes} {m : Reader A} (k : Kind) → Exact P f pre m → Exact P f pre (in-bindings k m)
+pub exact-in-bindings : {A : Type 0} {P : A → Type 0} {f : A → Bytes} {pre : Bytes} {m : Reader A} (k : Kind) → Exact P f pre m → Exact P f pre (in-bindings k m)
 unfolding in-bindings in-zone
 exact-in-bindings k e = record { takes = λ c i b j h. e .takes _ i b j h }
 
-exact-note : Exact Any (λ u. []) [] note
+pub exact-note : Exact Any (λ u. []) [] note
 unfolding note
-exact-note = record { takes = λ c i b j h. (ap (λ (l : Input). l .rest) (same-input h), tt) }
+exact-note = record { takes = λ c i b j h. (ap (λ (l : Input). l .rest) (same-input h), tt, omega (arith, ap (λ (l : Input). l .offset) (same-input h))) }
 
 module _ (r : Readers) (eb : Exact Any body-bytes [] (r .body)) (eh : Exact Any helper-bytes [] (r .helper)) (ef : Exact Any form-bytes [] (r .form)) where
-  exact-let-of : (k : Kind) → Exact Any body-bytes (ascii "BL" ++ kind-field k) (let-of r k)
+  pub exact-let-of : (k : Kind) → Exact Any body-bytes (ascii "BL" ++ kind-field k) (let-of r k)
   unfolding let-of body-bytes record-bytes flatten
   exact-let-of k =
       exact-bind exact-loc λ l p. exact-bind exact-keyword λ w q. exact-bind exact-hint λ h s. exact-bind exact-count λ n t.
@@ -352,6 +358,16 @@ exact-assign-of = let e = exact-readers (level-limit - 1) in exact-marked (also
     (exact-deeper 1 (exact-bind exact-next λ k p. exact-check malformed (eqb k 2) λ q. rw (two k q) (exact-let-of _ (e .body) (e .helper) (e .form) Assign)))
     none-left)
 
+-- a reader that is done has gone on by the length of what it took, and what is left is the rest after that
+pub record Advanced {A : Type 0} (f : A → Bytes) (i : Input) (a : A) (j : Input) : Type 0 where
+  pub took : i .rest ≡ f a ++ j .rest
+  pub left : j .rest ≡ drop (length (f a)) (i .rest)
+  pub moved : j .offset ≡ i .offset + length (f a)
+
+pub advances : {A : Type 0} {P : A → Type 0} {f : A → Bytes} {m : Reader A} → Exact P f [] m → (c : Context) (i : Input) (a : A) (j : Input) → m c i ≡ done a j → Advanced f i a j
+advances {f} e c i a j h = let t = e .takes c i a j h in
+    record { took = t .0; left = sym (drop-append-seam (f a) (j .rest)) ∙ ap (drop (length (f a))) (sym (t .0)); moved = omega (arith, t .2) }
+
 -- an input that is read whole is the bytes of its tree
 pub read-back : {A : Type 0} {f : A → Bytes} {m : Reader A} → Exact Any f [] m → (input : Bytes) (a : A) (o : Option ℕ) → read-whole m input ≡ whole a o → input ≡ f a
 read-back {A} {f} {m} e input a o h =
@@ -360,6 +376,9 @@ read-back {A} {f} {m} e input a o h =
 
 pub form-read-back : (input : Bytes) (t : Form) (o : Option ℕ) → read-whole (readers level-limit .form) input ≡ whole t o → input ≡ form-bytes t
 form-read-back = read-back (exact-readers level-limit .form)
+
+pub assign-read-back : (input : Bytes) (t : Body) (o : Option ℕ) → read-whole assign-of input ≡ whole t o → input ≡ body-bytes t
+assign-read-back = read-back exact-assign-of
 
 pub helper-read-back : (input : Bytes) (t : Helper) (o : Option ℕ) → read-whole (readers level-limit .helper) input ≡ whole t o → input ≡ helper-bytes t
 helper-read-back = read-back (exact-readers level-limit .helper)

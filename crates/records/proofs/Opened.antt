@@ -20,6 +20,14 @@ pub record OpenedFrom {A : Type 0} (reader : Reader A) (F c : ℕ) (input : Byte
   pub size : length input ≤ F
   pub read : read-whole reader input ≡ whole a none
 
+-- F and the counter of a call within its limits
+pub within-limits : (F work c : ℕ) → limits F work c ≡ true → (F ≤ most-longest) × (c ≤ max-counter)
+unfolding limits
+within-limits F work c e =
+    let t : T (leb least-longest F && leb F most-longest && leb (work-factor * F) work && leb c max-counter) = rw e tt in
+    let u = T-left (leb least-longest F && leb F most-longest) (leb (work-factor * F) work) (T-left (leb least-longest F && leb F most-longest && leb (work-factor * F) work) (leb c max-counter) t) in
+    (leb→le F most-longest (T-right (leb least-longest F) (leb F most-longest) u), leb→le c max-counter (T-right (leb least-longest F && leb F most-longest && leb (work-factor * F) work) (leb c max-counter) t))
+
 module _ {A : Type 0} (reader : Reader A) (F work c : ℕ) (input : Bytes) where
   abbrev pub Start : Opened A → Type 0
   Start (opened a) = OpenedFrom reader F c input a
@@ -32,13 +40,6 @@ module _ {A : Type 0} (reader : Reader A) (F work c : ℕ) (input : Bytes) where
   start-read p q l (unread malformed m) e = (omega arith, omega arith)
   start-read p q l (unread over-limit m) e = (omega arith, omega arith)
 
-  within : limits F work c ≡ true → (F ≤ most-longest) × (c ≤ max-counter)
-  unfolding limits
-  within e =
-      let t : T (leb least-longest F && leb F most-longest && leb (work-factor * F) work && leb c max-counter) = rw e tt in
-      let u = T-left (leb least-longest F && leb F most-longest) (leb (work-factor * F) work) (T-left (leb least-longest F && leb F most-longest && leb (work-factor * F) work) (leb c max-counter) t) in
-      (leb→le F most-longest (T-right (leb least-longest F) (leb F most-longest) u), leb→le c max-counter (T-right (leb least-longest F && leb F most-longest && leb (work-factor * F) work) (leb c max-counter) t))
-
   pub start : Start (open-input reader F work c input)
   unfolding open-input
   start = go (limits F work c) refl
@@ -50,5 +51,5 @@ module _ {A : Type 0} (reader : Reader A) (F work c : ℕ) (input : Bytes) where
 
       go : (b : Bool) → limits F work c ≡ b
           → Start (elim b as (λ _. Opened A) [ false ↦ closed 1 0 | true ↦ elim (leb (length input) F) [ false ↦ closed 3 0 | true ↦ no-mod (read-whole reader input) ] ])
-      go true e = go₂ (within e) (leb (length input) F) refl
+      go true e = go₂ (within-limits F work c e) (leb (length input) F) refl
       go false e = (omega arith, omega arith)

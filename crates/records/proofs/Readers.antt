@@ -1,9 +1,11 @@
 -- What is known of a reader that is done, and of an input that is read whole. Assumes nothing.
 use mathlib.Core.Path.{_≡_, refl, ap, _∙_}
+use mathlib.Core.Bool.{Bool, true, false}
 use mathlib.Core.List.{[], _∷_}
 use mathlib.Core.Option.{Option, none}
 use Prim.Native.Nat.{ℕ}
 use native.Mathlib.Omega.{arith}
+use lib.Dec.{T}
 use Rattle.names.specs.Names.{Bytes}
 use Rattle.records.specs.Limits.{level-limit, lambda-limit}
 use Rattle.records.specs.Read.{Plain, Context, Input, Fault, malformed, Read, done, refused, Reader, Whole, whole, unread, left-over, read-whole}
@@ -17,6 +19,17 @@ not-done e = let z : _≡_ {A = ℕ} 0 1 = cc in omega arith
 
 pub same-value : {A : Type 0} {a b : A} {i j : Input} → _≡_ {A = Read A} (done a i) (done b j) → a ≡ b
 same-value e = cc
+
+pub same-input : {A : Type 0} {a b : A} {i j : Input} → _≡_ {A = Read A} (done a i) (done b j) → i ≡ j
+same-input e = cc
+
+-- a test as an equation
+pub T-of : {b : Bool} → b ≡ true → T b
+T-of e = rw e tt
+
+pub true-of : (b : Bool) → T b → b ≡ true
+true-of true t = refl
+true-of false t = absurd t
 
 -- where a whole input is read from
 abbrev pub outermost : Context

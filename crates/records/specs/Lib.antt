@@ -4,3 +4,6 @@ pub mod Sexps
 pub mod Read
 pub mod Opened
 pub mod Depth
+pub mod Valid
+pub mod Scan
+pub mod Answer

@@ -7,19 +7,11 @@ use Prim.Native.Nat.{ℕ, zero, suc, _+_, _-_}
 use Prim.Native.String.{String}
 use lib.Dec.{eqb, leb, ltb}
 use Rattle.names.specs.Names.{Bytes, ascii, same, number-of, name-width}
+pub use Rattle.records.specs.declared.Context.{Context}
+pub use Rattle.records.specs.declared.Zone.{Zone}
+pub use Rattle.records.specs.declared.Zone.the-variants.{Plain, InBinding, InMod}
 use Rattle.records.specs.Limits.{level-limit, cons-limit, lambda-limit, count-limit}
-use Rattle.records.specs.Records.{Loc, loc-width, raw-width, Sexp, SN, SC, SI, SQ, SA, Kind, Parallel, Sequential, Assign, Pattern, Name, Complex, Body, BL, BQ, BV, BC, BM, BF, Tail, no-tail, tail, Binding, BB, Helper, HC, HM, HD, HN, HR, Form, CF, to-bodies, to-bindings, to-helpers}
-
--- where a record stands: in no assign's binding body; in one, and in no BM; in a BM
-pub data Zone : Type 0 where
-  Plain InBinding InMod : Zone
-
--- offset of the innermost record's mark; how many levels of B, H and CF records, and of BF records, may follow; the zone
-pub record Context : Type 0 where
-  pub mark : ℕ
-  pub room : ℕ
-  pub lambdas : ℕ
-  pub zone : Zone
+use Rattle.records.specs.Records.{Loc, loc-width, raw-width, integer-width, Sexp, SN, SC, SI, SQ, SA, Kind, Parallel, Sequential, Assign, Pattern, Name, Complex, Body, BL, BQ, BV, BC, BM, BF, Tail, no-tail, tail, Binding, BB, Helper, HC, HM, HD, HN, HR, Form, CF, to-bodies, to-bindings, to-helpers}
 
 -- offset of the next byte; the bytes left; offset of the first BM met in a binding body of an assign
 pub record Input : Type 0 where
@@ -108,12 +100,16 @@ module _ {A : Type 0} where
   marked es c i = (bytes 2 >>= λ m. choose m es) (record { mark = i .offset; room = c .room; lambdas = c .lambdas; zone = c .zone }) i
 
 -- L
-unfoldable pub loc : Reader Loc
+abbrev pub loc : Reader Loc
 loc = bytes loc-width
 
+-- a length of w bytes, and that many bytes
+unfoldable pub counted : ℕ → Reader Bytes
+counted w = bytes w >>= λ b. bytes (number-of b)
+
 -- N
-unfoldable pub name : Reader Bytes
-name = bytes name-width >>= λ b. bytes (number-of b)
+abbrev pub name : Reader Bytes
+name = counted name-width
 
 -- R, kept as its bytes
 unfoldable pub raw-field : Reader Bytes
@@ -122,29 +118,33 @@ raw-field = do
   bs ← bytes (number-of b)
   ret (b ++ bs)
 
--- the bytes of a number, after their count
-unfoldable pub integer : Reader Bytes
-integer = next >>= λ n. bytes n
+-- a byte that is at most n, or else this fault
+unfoldable pub at-most : Fault → ℕ → Reader ℕ
+at-most f n = next >>= λ b. check f (leb b n) (ret b)
 
 -- a byte that is at most n
-unfoldable pub up-to : ℕ → Reader ℕ
-up-to n = next >>= λ b. check malformed (leb b n) (ret b)
+abbrev pub up-to : ℕ → Reader ℕ
+up-to n = at-most malformed n
 
 -- a byte, and an L where it asks for one
 unfoldable pub with-loc : Bool → ℕ → Reader Bytes
 with-loc more b = elim more [ true ↦ (loc >>= λ l. ret (b ∷ l)) | false ↦ ret (b ∷ []) ]
 
+-- a byte that is at most n, with an L behind it from `least` on
+unfoldable pub optional-loc : ℕ → ℕ → Reader Bytes
+optional-loc least n = up-to n >>= λ b. with-loc (leb least b) b
+
 -- K
-unfoldable pub keyword : Reader Bytes
-keyword = up-to 1 >>= λ b. with-loc (eqb b 1) b
+abbrev pub keyword : Reader Bytes
+keyword = optional-loc 1 1
 
 -- a let's hint
-unfoldable pub hint : Reader Bytes
-hint = up-to 3 >>= λ b. with-loc (leb 2 b) b
+abbrev pub hint : Reader Bytes
+hint = optional-loc 2 3
 
 -- a count
-unfoldable pub count : Reader ℕ
-count = next >>= λ n. check over-limit (leb n count-limit) (ret n)
+abbrev pub count : Reader ℕ
+count = at-most over-limit count-limit
 
 -- the shortest signed bytes of a number: the first says more than the sign of the second
 unfoldable pub shortest : Bytes → Bool
@@ -152,18 +152,21 @@ shortest [] = false
 shortest (b ∷ []) = true
 shortest (a ∷ b ∷ bs) = not (eqb a 0 && ltb b 128 || eqb a 255 && leb 128 b)
 
--- an S record, whose SC is read by `cons`
-unfoldable pub sexp-rule : Reader Sexp → Reader Sexp
-sexp-rule cons =
-    marked
-    (("SN", (loc >>= λ l. ret (SN l)))
+-- the bytes of a number, after their count
+unfoldable pub integer : Reader Bytes
+integer = counted integer-width >>= λ v. check malformed (shortest v) (ret v)
+
+-- the S records, whose SC is read by `cons`
+abbrev pub sexp-kinds : Reader Sexp → List (String × Reader Sexp)
+sexp-kinds cons =
+    ("SN", (loc >>= λ l. ret (SN l)))
     ∷ ("SC", cons)
     ∷ (
       "SI",
       do
         l ← loc
         v ← integer
-        check malformed (shortest v) (ret (SI l v)),
+        ret (SI l v),
     )
     ∷ (
       "SQ",
@@ -180,18 +183,26 @@ sexp-rule cons =
         n ← name
         ret (SA l n),
     )
-    ∷ [])
+    ∷ []
+
+-- an S record
+unfoldable pub sexp-rule : Reader Sexp → Reader Sexp
+sexp-rule cons = marked (sexp-kinds cons)
+
+-- what stands after the mark of an SC, whose parts are read by `part`
+unfoldable pub cons-rule : Reader Sexp → Reader Sexp
+cons-rule part = do
+  l ← loc
+  h ← part
+  t ← part
+  ret (SC l h t)
 
 -- at most this many SC deep
 unfoldable pub sexp-at : ℕ → Reader Sexp
 sexp-at zero = sexp-rule (refuse over-limit)
-sexp-at (suc d) = sexp-rule (do
-  l ← loc
-  h ← sexp-at d
-  t ← sexp-at d
-  ret (SC l h t))
+sexp-at (suc d) = sexp-rule (cons-rule (sexp-at d))
 
--- an S record
+-- an S record within its limit
 unfoldable pub sexp : Reader Sexp
 sexp = sexp-at cons-limit
 
@@ -245,17 +256,18 @@ pattern-after (suc b) = sexp >>= λ s. ret (Complex s)
 unfoldable pub pattern-of : Reader Pattern
 pattern-of = up-to 1 >>= λ b. pattern-after b
 
+-- what stands after the mark of a BB
+abbrev pub binding-after : Reader Body → Reader Binding
+binding-after body = do
+  l ← loc
+  nl ← loc
+  p ← pattern-of
+  b ← body
+  ret (BB l nl p b)
+
 -- BB
 unfoldable pub binding : Reader Body → Reader Binding
-binding body = marked ((
-  "BB",
-  do
-    l ← loc
-    nl ← loc
-    p ← pattern-of
-    b ← body
-    ret (BB l nl p b),
-) ∷ [])
+binding body = marked (("BB", binding-after body) ∷ [])
 
 -- a let after its kind byte
 unfoldable pub let-of : Readers → Kind → Reader Body
@@ -278,108 +290,125 @@ tail-after body (suc b) = body >>= λ t. ret (tail t)
 unfoldable pub call-tail : Reader Body → Reader Tail
 call-tail body = up-to 1 >>= λ b. tail-after body b
 
+-- what stands after the mark of each B record, one level down: BL, BQ and BV, BC, BM, BF
+abbrev pub let-after : Readers → Reader Body
+let-after r = up-to 2 >>= λ k. let-of r (kind-of k)
+
+abbrev pub quoted-after : (Sexp → Body) → Reader Body
+quoted-after k = sexp >>= λ s. ret (k s)
+
+abbrev pub call-after : Readers → Reader Body
+call-after r = do
+  l ← loc
+  n ← count
+  bs ← times n (r .body)
+  t ← call-tail (r .body)
+  ret (BC l (to-bodies bs) t)
+
+abbrev pub mod-after : Readers → Reader Body
+mod-after r = do
+  note
+  l ← loc
+  f ← in-zone InMod (r .form)
+  ret (BM l f)
+
+abbrev pub lambda-after : Readers → Reader Body
+lambda-after r = do
+  l ← loc
+  w ← keyword
+  ca ← sexp
+  c ← r .body
+  a ← sexp
+  b ← r .body
+  ret (BF l w ca c a b)
+
+-- the B records
+abbrev pub body-kinds : Readers → List (String × Reader Body)
+body-kinds r =
+    ("BL", deeper 1 (let-after r))
+    ∷ ("BQ", deeper 1 (quoted-after BQ))
+    ∷ ("BV", deeper 1 (quoted-after BV))
+    ∷ ("BC", deeper 1 (call-after r))
+    ∷ ("BM", deeper 1 (mod-after r))
+    ∷ ("BF", deeper 1 (in-lambda (lambda-after r)))
+    ∷ []
+
 -- a B record
 unfoldable pub body-rule : Readers → Reader Body
-body-rule r = marked
-    (("BL", deeper 1 (up-to 2 >>= λ k. let-of r (kind-of k)))
-    ∷ ("BQ", deeper 1 (sexp >>= λ s. ret (BQ s)))
-    ∷ ("BV", deeper 1 (sexp >>= λ s. ret (BV s)))
-    ∷ (
-      "BC",
-      deeper 1 (do
-        l ← loc
-        n ← count
-        bs ← times n (r .body)
-        t ← call-tail (r .body)
-        ret (BC l (to-bodies bs) t)),
-    )
-    ∷ (
-      "BM",
-      deeper 1 (do
-        note
-        l ← loc
-        f ← in-zone InMod (r .form)
-        ret (BM l f)),
-    )
-    ∷ (
-      "BF",
-      deeper 1 (in-lambda (do
-        l ← loc
-        w ← keyword
-        ca ← sexp
-        c ← r .body
-        a ← sexp
-        b ← r .body
-        ret (BF l w ca c a b))),
-    )
-    ∷ [])
+body-rule r = marked (body-kinds r)
+
+-- what stands after the mark of each H record, one level down
+abbrev pub constant-after : Readers → Reader Helper
+constant-after r = do
+  l ← loc
+  n ← name
+  x ← raw-field
+  b ← r .body
+  ret (HC l n x b)
+
+abbrev pub macro-after : Readers → Reader Helper
+macro-after r = do
+  l ← loc
+  n ← name
+  x ← raw-field
+  a ← sexp
+  f ← r .form
+  ret (HM l n x a f)
+
+abbrev pub function-after : Readers → Reader Helper
+function-after r = do
+  l ← loc
+  i ← up-to 1
+  n ← name
+  x ← raw-field
+  a ← sexp
+  b ← r .body
+  ret (HD l i n x a b)
+
+abbrev pub namespace-after : Readers → Reader Helper
+namespace-after r = do
+  l ← loc
+  n ← name
+  x ← raw-field
+  k ← count
+  hs ← times k (r .helper)
+  ret (HN l n x (to-helpers hs))
+
+abbrev pub reference-after : Reader Helper
+reference-after = do
+  l ← loc
+  n ← name
+  x ← raw-field
+  ret (HR l n x)
+
+-- the H records
+abbrev pub helper-kinds : Readers → List (String × Reader Helper)
+helper-kinds r =
+    ("HC", deeper 1 (constant-after r))
+    ∷ ("HM", deeper 1 (macro-after r))
+    ∷ ("HD", deeper 1 (function-after r))
+    ∷ ("HN", deeper 1 (namespace-after r))
+    ∷ ("HR", deeper 1 reference-after)
+    ∷ []
 
 -- an H record
 unfoldable pub helper-rule : Readers → Reader Helper
-helper-rule r = marked
-    ((
-      "HC",
-      deeper 1 (do
-        l ← loc
-        n ← name
-        x ← raw-field
-        b ← r .body
-        ret (HC l n x b)),
-    )
-    ∷ (
-      "HM",
-      deeper 1 (do
-        l ← loc
-        n ← name
-        x ← raw-field
-        a ← sexp
-        f ← r .form
-        ret (HM l n x a f)),
-    )
-    ∷ (
-      "HD",
-      deeper 1 (do
-        l ← loc
-        i ← up-to 1
-        n ← name
-        x ← raw-field
-        a ← sexp
-        b ← r .body
-        ret (HD l i n x a b)),
-    )
-    ∷ (
-      "HN",
-      deeper 1 (do
-        l ← loc
-        n ← name
-        x ← raw-field
-        k ← count
-        hs ← times k (r .helper)
-        ret (HN l n x (to-helpers hs))),
-    )
-    ∷ (
-      "HR",
-      deeper 1 (do
-        l ← loc
-        n ← name
-        x ← raw-field
-        ret (HR l n x)),
-    )
-    ∷ [])
+helper-rule r = marked (helper-kinds r)
+
+-- what stands after the mark of a CF, one level down
+abbrev pub form-after : Readers → Reader Form
+form-after r = do
+  l ← loc
+  x ← raw-field
+  a ← sexp
+  n ← count
+  hs ← times n (r .helper)
+  b ← r .body
+  ret (CF l x a (to-helpers hs) b)
 
 -- CF
 unfoldable pub form-rule : Readers → Reader Form
-form-rule r = marked ((
-  "CF",
-  deeper 1 (do
-    l ← loc
-    x ← raw-field
-    a ← sexp
-    n ← count
-    hs ← times n (r .helper)
-    b ← r .body
-    ret (CF l x a (to-helpers hs) b)),
-) ∷ [])
+form-rule r = marked (("CF", deeper 1 (form-after r)) ∷ [])
 
 -- all three
 unfoldable pub rules : Readers → Readers
@@ -413,5 +442,5 @@ read-whole m bs =
 
 -- unfolds with every definition of this file
 unfoldable pub computing-read : Unit {0}
-unfolding fault-number _>>=_ _>>_ ret refuse check times deeper in-lambda in-zone next bytes choose marked loc name raw-field integer up-to with-loc keyword hint count shortest sexp-rule sexp-at sexp kind-of more-levels binding-zone noted note in-bindings pattern-after pattern-of binding let-of tail-after call-tail body-rule helper-rule form-rule rules readers assign-of left-over read-whole
+unfolding fault-number _>>=_ _>>_ ret refuse check times deeper in-lambda in-zone next bytes choose marked counted raw-field at-most with-loc optional-loc shortest integer sexp-rule cons-rule sexp-at sexp kind-of more-levels binding-zone noted note in-bindings pattern-after pattern-of binding let-of tail-after call-tail body-rule helper-rule form-rule rules readers assign-of left-over read-whole
 computing-read = tt

@@ -5,7 +5,7 @@ use mathlib.Core.List.{List, [], _∷_, _++_, flatten}
 use Prim.Native.Nat.{ℕ, suc}
 use Prim.Native.String.{String}
 use lib.ListN.{length}
-use Rattle.names.specs.Names.{Bytes, ascii, name-field, number-of}
+use Rattle.names.specs.Names.{Bytes, ascii, number-field, name-field, number-of}
 
 infixr 67 _∷ᵇ_
 infixr 67 _∷ᵍ_
@@ -13,6 +13,10 @@ infixr 67 _∷ʰ_
 -- the bytes of a location
 abbrev pub loc-width : ℕ
 loc-width = 4
+
+-- the bytes of the count that stands before a number
+abbrev pub integer-width : ℕ
+integer-width = 1
 
 -- the bytes of the length of R
 abbrev pub raw-width : ℕ
@@ -112,7 +116,7 @@ byte b = b ∷ []
 
 -- the bytes of a number, after their count
 unfoldable pub integer-field : Bytes → Bytes
-integer-field v = length v ∷ v
+integer-field v = number-field integer-width (length v) ++ v
 
 -- the bytes of each record
 unfoldable pub sexp-bytes : Sexp → Bytes

@@ -1,1 +1,2 @@
 pub mod Counters
+pub mod Words

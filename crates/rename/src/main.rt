@@ -1,8 +1,11 @@
 // The calls of the rename pass from the command line: the first argument says which.
+mod check;
 mod counter;
+mod kind;
 mod name;
 mod refusal;
 mod say;
+mod usage;
 
 // Runs the command that the first argument names.
 fn main() {
@@ -10,7 +13,9 @@ fn main() {
     let n = os::arg(1, &mut command);
     if names::bytes::same(&command[..n], b"name") {
         name::run();
+    } else if names::bytes::same(&command[..n], b"check") {
+        check::run();
     } else {
-        name::usage();
+        usage::print();
     }
 }

@@ -3,23 +3,19 @@ use crate::counter;
 use crate::counter::Counter;
 use crate::refusal;
 use crate::say;
-
-// How the command is used.
-pub fn usage() {
-    say::text(b"usage: rename name NAME COUNTER\n");
-}
+use crate::usage;
 
 // Reads the two arguments and makes the name. A NAME that its buffer cannot hold is cut: it is too
 // long for a made name either way.
 pub fn run() {
     if os::arg_count() != 4 {
-        usage();
+        usage::print();
         return;
     }
     let mut digits = io::buffer();
     let n = os::arg(3, &mut digits);
     match counter::parse(&digits[..n]) {
-        Counter::Nothing => usage(),
+        Counter::Nothing => usage::print(),
         Counter::Is(c) => {
             let mut name = io::buffer();
             let n = os::arg(2, &mut name);

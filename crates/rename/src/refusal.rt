@@ -1,19 +1,54 @@
 // Refusals in words.
 use crate::say;
 
-// One line: the refusal's number and what it means.
+// The line of a refusal of the call Name.
 pub fn print(number: u32) {
+    start(number);
+    if number == 1 {
+        say::text(b"the counter is above ");
+        say::number(names::MAX_COUNTER);
+    } else {
+        meaning(number);
+    }
+    say::text(b"\n");
+}
+
+// The line of a refusal in reading a record, with its place.
+pub fn print_at(number: u32, place: usize) {
+    start(number);
+    if number == 1 {
+        say::text(b"F is not from ");
+        say::number(records::LEAST_LONGEST as u64);
+        say::text(b" to ");
+        say::number(records::MOST_LONGEST as u64);
+    } else {
+        meaning(number);
+    }
+    say::text(b" at offset ");
+    say::number(place as u64);
+    say::text(b"\n");
+}
+
+// The refusal's number.
+fn start(number: u32) {
     say::text(b"refused ");
     say::number(number as u64);
-    if number == 1 {
-        say::text(b": the counter is above ");
-        say::number(names::MAX_COUNTER);
+    say::text(b": ");
+}
+
+// What a refusal means, for those that mean the same in every call.
+fn meaning(number: u32) {
+    if number == 2 {
+        say::text(b"the input is not exactly one record of the kind asked for");
+    } else if number == 3 {
+        say::text(b"the input is longer than F or passes a limit of the format");
+    } else if number == 4 {
+        say::text(b"a binding body of an assign has a BM in it");
     } else if number == 6 {
-        say::text(b": the made name would be longer than ");
+        say::text(b"the made name would be longer than ");
         say::number(names::NAME_LIMIT as u64);
         say::text(b" bytes");
     } else {
-        say::text(b": the result does not fit");
+        say::text(b"the result does not fit");
     }
-    say::text(b"\n");
 }

@@ -7,3 +7,5 @@ pub mod Demand
 pub mod Atoms
 pub mod Sizes
 pub mod Limits
+pub mod Kept
+pub mod Again

@@ -64,7 +64,7 @@ module _ (bs : List Binding) where
   unfolding toposort-assign-bindings
   full-order is q = sound (items bs) is q
 
-  order-length : (is : List ℕ) → toposort-assign-bindings bs ≡ ordered is → length is ≡ length bs
+  pub order-length : (is : List ℕ) → toposort-assign-bindings bs ≡ ordered is → length is ≡ length bs
   unfolding toposort-assign-bindings items
   order-length is q = sound-length (items bs) is q ∙ length-map bs item
 

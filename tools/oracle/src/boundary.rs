@@ -3,6 +3,7 @@
 use crate::answers::Call;
 use crate::cases::{atom, body_of, complex, cons, form_of, lambda, let_of, named, nil, number, var};
 use crate::random::Random;
+use crate::reads::Asked;
 use crate::records::{Binding, Body, Bytes, Form, Head, Helper, Kind, Lambda, Let, Pattern, Record, Sexp};
 
 /// An input near a limit, for a call that takes records.
@@ -11,6 +12,15 @@ pub fn input(random: &mut Random, call: Call) -> Bytes {
         Call::Order => assign(random).bytes(),
         Call::Helper => helper(random).bytes(),
         _ => form(random).bytes(),
+    }
+}
+
+/// The same by the record asked for.
+pub fn of_kind(random: &mut Random, asked: Asked) -> Bytes {
+    match asked {
+        Asked::Form => input(random, Call::Whole),
+        Asked::Helper => input(random, Call::Helper),
+        Asked::Assign => input(random, Call::Order),
     }
 }
 
@@ -113,7 +123,7 @@ fn deep_helper(random: &mut Random) -> Helper {
     let innermost = Helper::HR(head("r"));
     match random.one_in(2) {
         true => (1..levels).fold(innermost, |inner, _| space(inner)),
-        false if levels % 2 == 0 => (1..levels / 2).fold(space(innermost), |inner, _| a_macro(inner)),
+        false if levels.is_multiple_of(2) => (1..levels / 2).fold(space(innermost), |inner, _| a_macro(inner)),
         false => (0..levels / 2).fold(innermost, |inner, _| a_macro(inner)),
     }
 }

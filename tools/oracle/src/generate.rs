@@ -91,7 +91,7 @@ impl Maker {
     pub fn loc(&mut self) -> Loc {
         self.next_loc += 1;
         match self.random.below(40) {
-            0 => self.random.next() as Loc,
+            0 => self.random.draw() as Loc,
             1 => 0,
             _ => self.next_loc,
         }
@@ -103,7 +103,7 @@ impl Maker {
     }
 
     fn rest(&mut self) -> Bytes {
-        (0..self.random.below(4)).map(|_| self.random.next() as u8).collect()
+        (0..self.random.below(4)).map(|_| self.random.draw() as u8).collect()
     }
 
     fn keyword(&mut self) -> Option<Loc> {

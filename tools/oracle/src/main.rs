@@ -1,28 +1,10 @@
 //! Runs the rename pass of Chialisp's Rust compiler on form records, and makes test vectors of it.
 
-#[macro_use]
-mod shims;
-mod answers;
-mod boundary;
-mod cases;
-mod codec;
-mod compare;
-mod compiler;
-mod generate;
-mod model;
-mod ordering;
-mod print;
-mod random;
-mod reader;
-mod records;
-mod rows;
-mod sample;
-mod util;
-mod vectors;
-
-use answers::{Call, Case, Opened, CALLS};
-use generate::Maker;
-use records::Record;
+use oracle::answers::{self, Call, Case, Opened, CALLS};
+use oracle::generate::Maker;
+use oracle::reads::{self, Series};
+use oracle::records::Record;
+use oracle::{cases, compare, print, rows, sample, vectors};
 use std::io::{self, BufRead};
 use std::process::ExitCode;
 
@@ -35,6 +17,10 @@ const HELP: &str = "oracle COMMAND ..
   answer              reads left-hand sides (or whole lines) and prints vector lines
   compare-model --count N --seed S
                       runs the model and the Rust on N random forms and compares
+  reads --count N --seed S
+                      N reading cases: at every limit, small records cut and changed, random ones
+  store-reads --count N --seed S FILE
+                      writes N of them, most of them small, to a file
   rows [--batch N]    reads vector lines and prints an antt file that checks them by computation
   show HEX            a CF, a helper or an assign, readable
   run CALL HEX [COUNTER]
@@ -42,6 +28,7 @@ const HELP: &str = "oracle COMMAND ..
   differences         the same for inputs where the pass surprises
 
 A vector line: call F work counter buffer input-hex -> number place counter output-hex
+A reading case: kind F input-hex -> number place (kind: form, helper, assign)
 buffer is the length of the result buffer; no bytes are written as '-'. The output is what is written at the front of the buffer.
 With number 5 the order call writes the indices of the stuck bindings.";
 
@@ -67,6 +54,8 @@ fn command(words: &[&str]) -> Done {
         ["cases"] => cases::worked().iter().try_for_each(print_line),
         ["answer"] => answer_lines(),
         ["compare-model", options @ ..] => compare::compare(number(options, "--count", None)?, number(options, "--seed", None)?),
+        ["reads", options @ ..] => print_reads(options),
+        ["store-reads", options @ .., file] => store_reads(options, file),
         ["rows", options @ ..] => rows::rows(&input_lines()?, number(options, "--batch", Some(rows::BATCH))? as usize),
         ["show", hex] => show(hex),
         ["run", call, hex] => run(call_named(call)?, &vectors::from_hex(hex)?, 0),
@@ -128,6 +117,21 @@ fn vectors(options: &[&str]) -> Done {
 
 fn answer_lines() -> Done {
     input_lines()?.iter().try_for_each(|line| print_line(&vectors::case_of(line)?))
+}
+
+fn print_reads(options: &[&str]) -> Done {
+    let series = Series::full(number(options, "--seed", None)?);
+    let count = number(options, "--count", None)? as usize;
+    series.take(count).for_each(|reading| println!("{}", reading.line()));
+    Ok(())
+}
+
+fn store_reads(options: &[&str], file: &str) -> Done {
+    let count = number(options, "--count", None)? as usize;
+    let bytes = reads::store(number(options, "--seed", None)?, count);
+    std::fs::write(file, &bytes).map_err(|why| format!("cannot write {file}: {why}"))?;
+    println!("{count} cases in {} bytes", bytes.len());
+    Ok(())
 }
 
 fn readable(opened: &Opened) -> String {

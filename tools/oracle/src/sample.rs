@@ -75,9 +75,9 @@ fn some_input(maker: &mut Maker, call: Call) -> Bytes {
 }
 
 /// Cut off, a byte changed, inserted or taken away, or bytes left over.
-fn damaged(random: &mut Random, mut input: Bytes) -> Bytes {
+pub fn damaged(random: &mut Random, mut input: Bytes) -> Bytes {
     let at = random.below(input.len());
-    let byte = if random.one_in(2) { random.next() as u8 } else { random.pick(b"\x00\x01\x02\x03\x40\x41BSHCFLAN") };
+    let byte = if random.one_in(2) { random.draw() as u8 } else { random.pick(b"\x00\x01\x02\x03\x40\x41BSHCFLAN") };
     match random.below(6) {
         0 => input.truncate(at),
         1 | 2 => input[at] = byte,

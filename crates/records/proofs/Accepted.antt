@@ -1,0 +1,74 @@
+-- An input is accepted exactly when it is the bytes of a valid tree. Assumes nothing.
+use mathlib.Core.Path.{_≡_, ap, sym, _∙_}
+use mathlib.Core.Bool.{true}
+use mathlib.Core.Logic.{_↔_}
+use mathlib.Core.Option.{Option, none}
+use Prim.Native.Nat.{ℕ, _≤_}
+use lib.Dec.{leb, le→leb}
+use lib.ListN.{length}
+use Rattle.names.specs.Names.{Bytes}
+use Rattle.records.specs.Limits.{level-limit}
+use Rattle.records.specs.Records.{body-bytes, helper-bytes, form-bytes}
+use Rattle.records.specs.Read.{Plain, Reader, Whole, whole, readers, assign-of, read-whole}
+use Rattle.records.specs.Opened.{opened, limits, no-mod, open-input}
+use Rattle.records.specs.Valid.{AreBytes, ValidForm, ValidHelper, ValidAssign, NoMod, HelperNoMod, FormNoMod}
+use Rattle.records.proofs.Exact.{form-read-back, helper-read-back, assign-read-back}
+use Rattle.records.proofs.Opened.{start}
+use Rattle.records.proofs.Readers.{true-of}
+use Rattle.records.proofs.Complete.{WholeRead, form-complete, helper-complete, assign-complete}
+use Rattle.records.proofs.Valid.{form-valid, helper-valid, assign-valid}
+
+-- m reads whole what f writes of a tree with Valid, and nothing else; no BM is noted exactly if the tree has Clear
+pub record Format {A : Type 0} (m : Reader A) (f : A → Bytes) (Valid Clear : A → Type 0) : Type 0 where
+  pub complete : (t : A) → Valid t → WholeRead (Clear t) m (f t) t
+  pub valid : (input : Bytes) (t : A) (o : Option ℕ) → AreBytes input → read-whole m input ≡ whole t o → Valid t
+  pub back : (input : Bytes) (t : A) (o : Option ℕ) → read-whole m input ≡ whole t o → input ≡ f t
+
+pub form-format : Format (readers level-limit .form) form-bytes ValidForm (FormNoMod Plain)
+form-format = record { complete = form-complete; valid = form-valid; back = form-read-back }
+
+pub helper-format : Format (readers level-limit .helper) helper-bytes ValidHelper (HelperNoMod Plain)
+helper-format = record { complete = helper-complete; valid = helper-valid; back = helper-read-back }
+
+pub assign-format : Format assign-of body-bytes ValidAssign (NoMod Plain)
+assign-format = record { complete = assign-complete; valid = assign-valid; back = assign-read-back }
+
+module _ {A : Type 0} {t u : A} {o p : Option ℕ} where
+  same-tree : _≡_ {A = Whole A} (whole t o) (whole u p) → t ≡ u
+  same-tree e = cc
+
+  same-first : _≡_ {A = Whole A} (whole t o) (whole u p) → o ≡ p
+  same-first e = cc
+
+module _ {A : Type 0} {m : Reader A} {f : A → Bytes} {Valid Clear : A → Type 0} (s : Format m f Valid Clear) where
+  -- the bytes of a valid tree with no such BM
+  pub reads-clear : (t : A) → Valid t → Clear t → read-whole m (f t) ≡ whole t none
+  reads-clear t v n = let w = s .complete t v in w .whole-read ∙ ap (whole t) (w .stays n)
+
+  -- where none is noted there is none
+  pub clear-valid : (input : Bytes) (t : A) → AreBytes input → read-whole m input ≡ whole t none → Valid t × Clear t
+  clear-valid input t b h =
+      let v = s .valid input t none b h in
+      let w = s .complete t v in
+      (v, w .clear (same-first (sym (w .whole-read) ∙ ap (read-whole m) (sym (s .back input t none h)) ∙ h)))
+
+  -- an input of bytes is read as t exactly if it is the bytes of t, and t is valid
+  pub accepted : (input : Bytes) (t : A) → AreBytes input → ((o : Option ℕ) × (read-whole m input ≡ whole t o)) ↔ (Valid t × (input ≡ f t))
+  accepted input t b = (
+    λ (o, h). (s .valid input t o b h, s .back input t o h),
+    λ (v, e). let w = s .complete t v in (w .first, ap (read-whole m) e ∙ w .whole-read),
+  )
+
+  -- valid trees with the same bytes are the same
+  pub one-tree : (t u : A) → Valid t → Valid u → f t ≡ f u → t ≡ u
+  one-tree t u v w e = same-tree (sym (s .complete t v .whole-read) ∙ ap (read-whole m) e ∙ s .complete u w .whole-read)
+
+  module _ (F work c : ℕ) where
+    -- a call opens the bytes of a valid tree with no such BM
+    pub opens : (t : A) → limits F work c ≡ true → length (f t) ≤ F → Valid t → Clear t → open-input m F work c (f t) ≡ opened t
+    unfolding open-input no-mod
+    opens t h l v n = rw (h, true-of (leb (length (f t)) F) (le→leb (length (f t)) F l), reads-clear t v n, open-input)
+
+    -- and nothing else
+    pub opened-valid : (input : Bytes) (t : A) → AreBytes input → open-input m F work c input ≡ opened t → Valid t × Clear t × (input ≡ f t)
+    opened-valid input t b h = let o = rw h at (start m F work c input) in let p = clear-valid input t b (o .read) in (p .0, p .1, s .back input t none (o .read))

@@ -1,0 +1,69 @@
+-- `records::record::body_mark` meets its contract. Assumes nothing.
+use mathlib.Core.Path.{refl, sym, _∙_}
+use borrow.Author.Needs.{needs}
+use Rattle.names.specs.Names.{ascii}
+use Rattle.records.specs.Scan.{body-marks}
+use Rattle.records.proofs.RecordLaws.{body-place, index-past}
+use Rattle.records.proofs.record.body_mark.Statement.{statement}
+use Rattle.records.proofs.record.body_mark.Tie as tie
+
+returns : tie.Need-returns
+unfolding ascii
+returns c = body-place _ 2 refl (sym (c .before .is-word .ensures) ∙ c .if1 .taken)
+
+returns-2 : tie.Need-returns-2
+unfolding ascii
+returns-2 c = body-place _ 3 refl (sym (c .before .is-word2 .ensures) ∙ c .if2 .taken)
+
+returns-3 : tie.Need-returns-3
+unfolding ascii
+returns-3 c = body-place _ 1 refl (sym (c .before .is-word3 .ensures) ∙ c .if3 .taken)
+
+returns-4 : tie.Need-returns-4
+unfolding ascii
+returns-4 c = body-place _ 0 refl (sym (c .before .is-word4 .ensures) ∙ c .if4 .taken)
+
+returns-5 : tie.Need-returns-5
+unfolding ascii
+returns-5 c = body-place _ 5 refl (sym (c .before .is-word5 .ensures) ∙ c .if5 .taken)
+
+returns-6 : tie.Need-returns-6
+unfolding ascii
+returns-6 c = body-place _ 4 refl (sym (c .before .is-word6 .ensures) ∙ c .if6 .taken)
+
+returns-7 : tie.Need-returns-7
+unfolding ascii
+returns-7 c =
+    let c₁ = c .before .before .before in
+    let c₂ = c₁ .before .before .before in
+    let c₃ = c₂ .before .before .before in
+    let c₄ = c₃ .before .before .before in
+    let c₅ = c₄ .before .before .before in
+    index-past _ body-marks (
+      sym (c₂ .before .is-word4 .ensures) ∙ c₂ .if4 .left,
+      (
+        sym (c₃ .before .is-word3 .ensures) ∙ c₃ .if3 .left,
+        (
+          sym (c₅ .before .is-word .ensures) ∙ c₅ .if1 .left,
+          (
+            sym (c₄ .before .is-word2 .ensures) ∙ c₄ .if2 .left,
+            (
+              sym (c .before .is-word6 .ensures) ∙ c .if6 .left,
+              (sym (c₁ .before .is-word5 .ensures) ∙ c₁ .if5 .left, tt),
+            ),
+          ),
+        ),
+      ),
+    )
+
+pub body-mark-spec : {M : Type 1} → statement M
+body-mark-spec =
+    tie.close
+    (tie.spec
+    (λ c. search needs) (λ c κs. search needs) returns
+    (λ c. search needs) (λ c κs. search needs) returns-2
+    (λ c. search needs) (λ c κs. search needs) returns-3
+    (λ c. search needs) (λ c κs. search needs) returns-4
+    (λ c. search needs) (λ c κs. search needs) returns-5
+    (λ c. search needs) (λ c κs. search needs) returns-6
+    returns-7)

@@ -1,0 +1,28 @@
+-- `records::record::noted` meets its contract. Assumes nothing.
+use borrow.Author.Needs.{needs}
+use native.Mathlib.Omega.{arith}
+use Rattle.records.proofs.ContextLaws.{note-plain, note-inside, note-refused, note-later, note-first}
+use Rattle.records.proofs.record.noted.Statement.{statement}
+use Rattle.records.proofs.record.noted.Tie as tie
+
+returns : tie.Need-returns
+returns c = note-refused _ _ _ (c .before .before .before .before .pre .0) (c .if1 .taken)
+
+returns-2 : tie.Need-returns-2
+returns-2 c = note-later _ _ _ (c .before .before .before .before .before .before .pre .0) (c .before .before .before .before .enum-told3 .given .1) (c .if2 .taken)
+
+returns-3 : tie.Need-returns-3
+returns-3 c = note-plain _ _ _ (c .before .before .pre .0) (c .enum-told .given .1)
+
+returns-4 : tie.Need-returns-4
+returns-4 c = note-inside _ _ _ (c .before .before .pre .0) (c .enum-told2 .given .1)
+
+returns-5 : tie.Need-returns-5
+returns-5 c =
+    note-first _ _ _ (c .before .before .before .before .before .before .before .pre .0) (c .before .before .before .before .before .enum-told3 .given .1)
+    (c .before .before .before .if1 .left) (c .before .if2 .left)
+
+pub noted-spec : {M : Type 1} → statement M
+noted-spec =
+    tie.close
+    (tie.spec (λ c. search needs) (λ c. search needs) (λ c. search needs) returns returns-2 (λ c. omega (arith, c .before .before .before .before .before .before .before .pre .1)) returns-3 returns-4 returns-5)

@@ -1,0 +1,104 @@
+// Replays stored reading cases: standard input has the cases, each with the answer that it must get.
+//
+// A case is its kind, number, F, place and the length of its input (1, 1, 2, 2 and 2 bytes,
+// big-endian), and then the input.
+mod reader;
+
+use libc::STDIN_FILENO;
+use libc::STDOUT_FILENO;
+use reader::agrees;
+
+// What came of one case.
+enum Outcome {
+    Agrees,
+    Differs,
+    CutOff,
+    Ended,
+}
+
+// The number of one byte.
+fn one(byte: u8) -> u32 {
+    byte as u32
+}
+
+// The number of two bytes.
+fn two(high: u8, low: u8) -> usize {
+    256 * high as usize + low as usize
+}
+
+// Reads the input of a case into a buffer of its length, and has the reader answer it.
+fn judged(head: &[u8; 8], input: &mut [u8]) -> Outcome {
+    if io::read_full(STDIN_FILENO, input) < input.len() {
+        return Outcome::CutOff;
+    }
+    if agrees(
+        head[0],
+        two(head[2], head[3]),
+        one(head[1]),
+        two(head[4], head[5]) as u64,
+        input,
+    ) {
+        Outcome::Agrees
+    } else {
+        Outcome::Differs
+    }
+}
+
+// Reads the next case and has the reader answer it.
+fn next(buf: &mut [u8]) -> Outcome {
+    let mut head = [0; 8];
+    let got = io::read_full(STDIN_FILENO, &mut head);
+    if got == 0 {
+        return Outcome::Ended;
+    }
+    if got < 8 {
+        return Outcome::CutOff;
+    }
+    let len = two(head[6], head[7]);
+    if len > buf.len() {
+        return Outcome::CutOff;
+    }
+    judged(&head, &mut buf[..len])
+}
+
+// Says of the case after `done` others what is wrong with it.
+fn fault(done: u64, what: &[u8]) {
+    io::write_all(STDOUT_FILENO, b"after ");
+    io::print_decimal(STDOUT_FILENO, done);
+    io::write_all(STDOUT_FILENO, b" reading cases that agree, the next ");
+    io::write_all(STDOUT_FILENO, what);
+}
+
+fn all_agree(done: u64) {
+    io::print_decimal(STDOUT_FILENO, done);
+    io::write_all(STDOUT_FILENO, b" reading cases agree\n");
+}
+
+// Replays the case after `done` others, and answers whether to go on.
+fn goes_on(buf: &mut [u8], done: u64) -> bool {
+    let outcome = next(buf);
+    match outcome {
+        Outcome::Agrees => {
+            return true;
+        }
+        Outcome::Ended => all_agree(done),
+        Outcome::Differs => fault(done, b"does not\n"),
+        Outcome::CutOff => fault(done, b"is cut off\n"),
+    }
+    false
+}
+
+// A proved loop has to end, and nothing says that the input does. So the loop counts, up to a
+// number that no run reaches.
+fn replay(buf: &mut [u8]) {
+    let mut done = 0;
+    while done < u64::MAX && goes_on(buf, done) {
+        done += 1;
+    }
+}
+
+// The buffer is as long as the longest input that a length of two bytes can announce.
+fn main() {
+    let mut buf = io::large_buffer();
+    replay(&mut buf);
+}

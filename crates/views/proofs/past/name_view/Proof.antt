@@ -1,0 +1,11 @@
+-- `views::past::name_view` meets its contract. Assumes nothing.
+use borrow.Author.Needs.{needs}
+use Rattle.views.proofs.Views.{sees-name}
+use Rattle.views.proofs.past.name_view.Statement.{statement}
+use Rattle.views.proofs.past.name_view.Tie as tie
+
+returns : tie.Need-returns
+returns c = sees-name (c .before .past-bytes .ensures) (c .past-name .ensures)
+
+pub name-view-spec : {M : Type 1} → statement M
+name-view-spec = tie.close (tie.spec (λ c κs. search needs) (λ c κs. search needs) returns)

@@ -1,0 +1,15 @@
+-- `views::past::past_keyword` meets its contract. Assumes nothing.
+use borrow.Author.Needs.{needs}
+use Rattle.records.proofs.Complete.{reads-keyword}
+use Rattle.views.proofs.Parts.{field-past}
+use Rattle.views.proofs.past.past_keyword.Statement.{statement}
+use Rattle.views.proofs.past.past_keyword.Tie as tie
+
+keyword-requires : tie.Need-keyword-requires
+keyword-requires c κs = rw (c .from-place .ensures) (search needs)
+
+returns : tie.Need-returns
+returns c = field-past (λ t v. reads-keyword v) (c .before .from-place .ensures) (c .keyword .ensures)
+
+pub past-keyword-spec : {M : Type 1} → statement M
+past-keyword-spec = tie.close (tie.spec (λ c κs. search needs) keyword-requires returns)

@@ -1,0 +1,11 @@
+-- `views::skip::skip_sexp` meets its contract. Assumes nothing.
+use borrow.Author.Needs.{needs}
+use Rattle.views.proofs.Parts.{sexp-skips}
+use Rattle.views.proofs.skip.skip_sexp.Statement.{statement}
+use Rattle.views.proofs.skip.skip_sexp.Tie as tie
+
+returns : tie.Need-returns
+returns c = sexp-skips (c .sexp .ensures)
+
+pub skip-sexp-spec : {M : Type 1} → statement M
+skip-sexp-spec = tie.close (tie.spec (λ c κs. search needs) returns)

@@ -1,0 +1,178 @@
+-- What a view of a record says: where its fields and children stand, from its mark on.
+-- Assumes nothing.
+use mathlib.Core.Path.{_≡_}
+use mathlib.Core.List.{List, [], _∷_, flatten}
+use Prim.Native.Nat.{ℕ, _+_, _≤_}
+use lib.ListN.{length}
+use Rattle.names.specs.Names.{Bytes, name-field}
+use Rattle.names.specs.Segments.{At}
+use Rattle.records.specs.Read.{kind-of}
+use Rattle.records.specs.Records.{Loc, Sexp, SC, SA, sexp-bytes, Kind, Pattern, Name, Complex, pattern-field, Body, BL, BQ, BV, BC, BM, BF, body-bytes, Bodies, bodies-bytes, bodies-count, Tail, no-tail, tail, tail-bytes, BB, binding-bytes, Bindings, bindings-bytes, bindings-count, HC, HM, HD, HN, HR, helper-bytes, Helpers, helpers-bytes, helpers-count, Form, CF, form-bytes}
+use Rattle.records.specs.Valid.{ValidLoc, ValidName, ValidRaw, ValidSexp, ValidBody, ValidHelper, ValidForm}
+use Rattle.views.specs.Parts.{ValidBinding}
+use Rattle.views.specs.declared.NameView.{NameView}
+use Rattle.views.specs.declared.TaggedView.{TaggedView}
+use Rattle.views.specs.declared.LetView.{LetView}
+use Rattle.views.specs.declared.BindingView.{BindingView}
+use Rattle.views.specs.declared.CallView.{CallView}
+use Rattle.views.specs.declared.LambdaView.{LambdaView}
+use Rattle.views.specs.declared.FormView.{FormView}
+use Rattle.views.specs.declared.NamedView.{NamedView}
+use Rattle.views.specs.declared.ArgsView.{ArgsView}
+use Rattle.views.specs.declared.NamespaceView.{NamespaceView}
+use Rattle.views.specs.declared.ConsView.{ConsView}
+
+-- the bytes of a mark
+abbrev pub mark-width : ℕ
+mark-width = 2
+
+-- fields stand in s one after the other from p on
+pub record Stands (s : Bytes) (p : ℕ) (fields : List Bytes) : Type 0 where
+  pub there : At s p (flatten fields)
+
+-- r is where the mark and the L end that s starts with
+pub record PastHead (s : Bytes) (r : ℕ) : Type 0 where
+  pub within : r ≤ length s
+  pub past : (m : Bytes) (l : Loc) (fields : List Bytes) → length m ≡ mark-width → ValidLoc l → Stands s 0 (m ∷ l ∷ fields) → Stands s r fields
+
+-- the bytes of a name
+pub record NameAt (s : Bytes) (v : NameView) (n : Bytes) : Type 0 where
+  pub bytes : At s (v .start) n
+  pub ends : v .end ≡ v .start + length n
+
+abbrev pub SeesName : Bytes → ℕ → NameView → Type 0
+SeesName s at v = (n : Bytes) → ValidName n → At s at (name-field n) → NameAt s v n
+
+-- a byte, and what follows it
+pub record TaggedAt (s : Bytes) (v : TaggedView) (b : ℕ) (bs : Bytes) : Type 0 where
+  pub tag : v .tag ≡ b
+  pub next : At s (v .next) bs
+
+-- a pattern, a tail
+unfoldable pub PatternAt : Bytes → TaggedView → Pattern → Type 0
+PatternAt s v (Name n) = TaggedAt s v 0 (name-field n)
+PatternAt s v (Complex x) = TaggedAt s v 1 (sexp-bytes x)
+
+unfoldable pub TailAt : Bytes → TaggedView → Tail → Type 0
+TailAt s v no-tail = v .tag ≡ 0
+TailAt s v (tail b) = TaggedAt s v 1 (body-bytes b)
+
+pub record SeesTagged (s : Bytes) (at : ℕ) (v : TaggedView) : Type 0 where
+  pub pattern : (p : Pattern) → At s at (pattern-field p) → PatternAt s v p
+  pub tail-of : (t : Tail) → At s at (tail-bytes t) → TailAt s v t
+
+-- a BC: how many elements; they and the tail
+pub record CallAt (s : Bytes) (v : CallView) (bs : Bodies) (t : Tail) : Type 0 where
+  pub count : v .count ≡ bodies-count bs
+  pub rest : Stands s (v .first) (bodies-bytes bs ∷ tail-bytes t ∷ [])
+
+abbrev pub SeesCall : Bytes → CallView → Type 0
+SeesCall s v = (l : Loc) (bs : Bodies) (t : Tail) → ValidBody (BC l bs t) → At s 0 (body-bytes (BC l bs t)) → CallAt s v bs t
+
+-- a BL: its fields; how many bindings; they and the body
+pub record LetAt (s : Bytes) (v : LetView) (k : Kind) (l : Loc) (w h : Bytes) (bs : Bindings) (b : Body) : Type 0 where
+  pub kind : kind-of (v .kind) ≡ k
+  pub loc : At s (v .loc) l
+  pub keyword : At s (v .keyword) w
+  pub hint : At s (v .hint) h
+  pub count : v .count ≡ bindings-count bs
+  pub rest : Stands s (v .first) (bindings-bytes bs ∷ body-bytes b ∷ [])
+
+abbrev pub SeesLet : Bytes → LetView → Type 0
+SeesLet s v = (k : Kind) (l : Loc) (w h : Bytes) (bs : Bindings) (b : Body) → ValidBody (BL k l w h bs b) → At s 0 (body-bytes (BL k l w h bs b)) → LetAt s v k l w h bs b
+
+-- a BB: its pattern and its body
+pub record BindingAt (s : Bytes) (v : BindingView) (p : Pattern) (b : Body) : Type 0 where
+  pub pattern : At s (v .pattern) (pattern-field p)
+  pub body : At s (v .body) (body-bytes b)
+
+abbrev pub SeesBinding : Bytes → BindingView → Type 0
+SeesBinding s v = (l nl : Loc) (p : Pattern) (b : Body) → ValidBinding (BB l nl p b) → At s 0 (binding-bytes (BB l nl p b)) → BindingAt s v p b
+
+-- a BF: K, capture args, captures, args and body
+pub record LambdaAt (s : Bytes) (v : LambdaView) (w : Bytes) (ca : Sexp) (c : Body) (a : Sexp) (b : Body) : Type 0 where
+  pub keyword : At s (v .keyword) w
+  pub binders : At s (v .binders) (sexp-bytes ca)
+  pub captures : At s (v .captures) (body-bytes c)
+  pub args : At s (v .args) (sexp-bytes a)
+  pub body : At s (v .body) (body-bytes b)
+
+abbrev pub SeesLambda : Bytes → LambdaView → Type 0
+SeesLambda s v = (l : Loc) (w : Bytes) (ca : Sexp) (c : Body) (a : Sexp) (b : Body) → ValidBody (BF l w ca c a b) → At s 0 (body-bytes (BF l w ca c a b)) → LambdaAt s v w ca c a b
+
+-- a BM: its CF
+abbrev pub SeesMod : Bytes → ℕ → Type 0
+SeesMod s v = (l : Loc) (f : Form) → ValidBody (BM l f) → At s 0 (body-bytes (BM l f)) → At s v (form-bytes f)
+
+-- a BQ, a BV: its S record
+abbrev pub SeesQuote : Bytes → ℕ → Type 0
+SeesQuote s v = (x : Sexp) → At s 0 (body-bytes (BQ x)) → At s v (sexp-bytes x)
+
+abbrev pub SeesValue : Bytes → ℕ → Type 0
+SeesValue s v = (x : Sexp) → At s 0 (body-bytes (BV x)) → At s v (sexp-bytes x)
+
+-- a CF: R and args; how many helpers; they and the body
+pub record FormAt (s : Bytes) (v : FormView) (r : Bytes) (a : Sexp) (hs : Helpers) (b : Body) : Type 0 where
+  pub raw : At s (v .raw) r
+  pub args : At s (v .args) (sexp-bytes a)
+  pub count : v .count ≡ helpers-count hs
+  pub rest : Stands s (v .first) (helpers-bytes hs ∷ body-bytes b ∷ [])
+
+abbrev pub SeesForm : Bytes → FormView → Type 0
+SeesForm s v = (l : Loc) (r : Bytes) (a : Sexp) (hs : Helpers) (b : Body) → ValidForm (CF l r a hs b) → At s 0 (form-bytes (CF l r a hs b)) → FormAt s v r a hs b
+
+-- a name and R, and the fields after them
+pub record NamedAt (s : Bytes) (v : NamedView) (n r : Bytes) (fields : List Bytes) : Type 0 where
+  pub name : At s (v .name) (name-field n)
+  pub raw : At s (v .raw) r
+  pub rest : Stands s (v .next) fields
+
+pub record PastNamed (s : Bytes) (at : ℕ) (v : NamedView) : Type 0 where
+  pub within : v .next ≤ length s
+  pub past : (n r : Bytes) (fields : List Bytes) → ValidName n → ValidRaw r → Stands s at (name-field n ∷ r ∷ fields) → NamedAt s v n r fields
+
+-- a name, R and args, and the fields after them
+pub record ArgsAt (s : Bytes) (v : ArgsView) (n r : Bytes) (a : Sexp) (fields : List Bytes) : Type 0 where
+  pub name : At s (v .name) (name-field n)
+  pub raw : At s (v .raw) r
+  pub args : At s (v .args) (sexp-bytes a)
+  pub rest : Stands s (v .next) fields
+
+pub record PastArgs (s : Bytes) (at : ℕ) (v : ArgsView) : Type 0 where
+  pub past : (n r : Bytes) (a : Sexp) (fields : List Bytes) → ValidName n → ValidRaw r → ValidSexp a → Stands s at (name-field n ∷ r ∷ sexp-bytes a ∷ fields) → ArgsAt s v n r a fields
+
+-- an HD, an HC, an HM
+abbrev pub SeesFunction : Bytes → ArgsView → Type 0
+SeesFunction s v = (l : Loc) (i : ℕ) (n r : Bytes) (a : Sexp) (b : Body) → ValidHelper (HD l i n r a b) → At s 0 (helper-bytes (HD l i n r a b)) → ArgsAt s v n r a (body-bytes b ∷ [])
+
+abbrev pub SeesConstant : Bytes → NamedView → Type 0
+SeesConstant s v = (l : Loc) (n r : Bytes) (b : Body) → ValidHelper (HC l n r b) → At s 0 (helper-bytes (HC l n r b)) → NamedAt s v n r (body-bytes b ∷ [])
+
+abbrev pub SeesMacro : Bytes → ArgsView → Type 0
+SeesMacro s v = (l : Loc) (n r : Bytes) (a : Sexp) (f : Form) → ValidHelper (HM l n r a f) → At s 0 (helper-bytes (HM l n r a f)) → ArgsAt s v n r a (form-bytes f ∷ [])
+
+-- an HN: name and R; how many helpers; they
+pub record NamespaceAt (s : Bytes) (v : NamespaceView) (n r : Bytes) (hs : Helpers) : Type 0 where
+  pub name : At s (v .name) (name-field n)
+  pub raw : At s (v .raw) r
+  pub count : v .count ≡ helpers-count hs
+  pub rest : At s (v .first) (helpers-bytes hs)
+
+abbrev pub SeesNamespace : Bytes → NamespaceView → Type 0
+SeesNamespace s v = (l : Loc) (n r : Bytes) (hs : Helpers) → ValidHelper (HN l n r hs) → At s 0 (helper-bytes (HN l n r hs)) → NamespaceAt s v n r hs
+
+-- an HR
+abbrev pub SeesReference : Bytes → NamedView → Type 0
+SeesReference s v = (l : Loc) (n r : Bytes) → ValidHelper (HR l n r) → At s 0 (helper-bytes (HR l n r)) → NamedAt s v n r []
+
+-- an SC: its head and its tail
+pub record ConsAt (s : Bytes) (v : ConsView) (h t : Sexp) : Type 0 where
+  pub head : At s (v .head) (sexp-bytes h)
+  pub tail : At s (v .tail) (sexp-bytes t)
+
+abbrev pub SeesCons : Bytes → ConsView → Type 0
+SeesCons s v = (l : Loc) (h t : Sexp) → ValidSexp (SC l h t) → At s 0 (sexp-bytes (SC l h t)) → ConsAt s v h t
+
+-- an SA: its name
+abbrev pub SeesAtom : Bytes → ℕ → Type 0
+SeesAtom s v = (l : Loc) (n : Bytes) → ValidSexp (SA l n) → At s 0 (sexp-bytes (SA l n)) → At s v (name-field n)

@@ -1,0 +1,39 @@
+//! Links the static library of the reader, which the environment variable RECORDS_LIB names.
+
+use std::env;
+use std::path::{Path, PathBuf};
+
+const DEFAULT_LIBRARY: &str = "../../target/staticlib/libexports.a";
+
+fn main() {
+    println!("cargo:rerun-if-env-changed=RECORDS_LIB");
+    println!("cargo:rerun-if-changed=build.rs");
+    let library = library();
+    println!("cargo:rerun-if-changed={}", library.display());
+    let (Some(folder), Some(name)) = (library.parent(), archive_name(&library)) else {
+        stop(&format!("RECORDS_LIB is no path to a libNAME.a: {}", library.display()));
+    };
+    if !library.is_file() {
+        stop(&format!("there is no {}: 'rt staticlib exports' makes it, or RECORDS_LIB names another", library.display()));
+    }
+    println!("cargo:rustc-link-search=native={}", folder.display());
+    println!("cargo:rustc-link-lib=static={name}");
+}
+
+fn library() -> PathBuf {
+    let package = PathBuf::from(env::var("CARGO_MANIFEST_DIR").expect("cargo sets CARGO_MANIFEST_DIR"));
+    match env::var("RECORDS_LIB") {
+        Ok(path) => PathBuf::from(path),
+        Err(_) => package.join(DEFAULT_LIBRARY),
+    }
+}
+
+/// The NAME of a libNAME.a.
+fn archive_name(library: &Path) -> Option<&str> {
+    library.file_name()?.to_str()?.strip_prefix("lib")?.strip_suffix(".a")
+}
+
+fn stop(why: &str) -> ! {
+    eprintln!("{why}");
+    std::process::exit(1)
+}
