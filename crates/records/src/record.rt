@@ -23,7 +23,7 @@ ghost use Rattle.records.specs.Read.{note, pattern-of, let-after, call-a
 ghost use Rattle.records.specs.Scan.{mark-index, body-marks, helper-marks, reader-of, times-of, many-of, let-of-kind, tail-of, body-after, lambda-within, helper-after, below, in-zone-of, Comes, Reads, Goes};
 
 // Which mark of a B record stands at the start of s: its place among BL, BQ, BV, BC, BM, BF, or 6.
-fn body_mark(s: &[u8]) -> u8
+pub fn body_mark(s: &[u8]) -> u8
     ensures { λ r. ⌜ r ≡ mark-index (take 2 (drop 0 (now (s .entry)))) body-marks ⌝ }
 {
     if is_word(s, 0, b"BV") {
@@ -48,7 +48,7 @@ fn body_mark(s: &[u8]) -> u8
 }
 
 // Which mark of an H record stands at the start of s: its place among HC, HM, HD, HN, HR, or 5.
-fn helper_mark(s: &[u8]) -> u8
+pub fn helper_mark(s: &[u8]) -> u8
     ensures { λ r. ⌜ r ≡ mark-index (take 2 (drop 0 (now (s .entry)))) helper-marks ⌝ }
 {
     if is_word(s, 0, b"HD") {

@@ -13,7 +13,7 @@ ghost use Rattle.records.specs.Read.{cons-rule, sexp-at};
 ghost use Rattle.records.specs.Scan.{Reads, mark-index, sexp-marks};
 
 // Which mark of an S record stands at the start of s: its place among SN, SC, SI, SQ, SA, or 5.
-fn sexp_mark(s: &[u8]) -> u8
+pub fn sexp_mark(s: &[u8]) -> u8
     ensures { λ r. ⌜ r ≡ mark-index (take 2 (drop 0 (now (s .entry)))) sexp-marks ⌝ }
 {
     if is_word(s, 0, b"SA") {

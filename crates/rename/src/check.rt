@@ -6,11 +6,15 @@ use crate::kind::Kind;
 use crate::refusal;
 use crate::say;
 use crate::usage;
+use records::Family;
 use records::MOST_LONGEST;
 use records::Opening;
 use records::WORK_FACTOR;
 use records::Wanted;
 use records::input::open_input;
+use views::count::count_records;
+ghost use mathlib.Core.Path.{_≡_};
+ghost use Rattle.rename.specs.Records.{wanted-family, RecordsIn};
 
 // How much of a file is read: a file that fills it is over every F, and refused as 3 at 0.
 const MOST_READ: usize = MOST_LONGEST + 1;
@@ -65,15 +69,39 @@ fn read(fd: i32, path: &[u8], wanted: Wanted, f: usize) {
     judge(&input[..n], wanted, f);
 }
 
-// Prints whether the bytes of a file are accepted, or the refusal.
+// Prints that the bytes of a file are accepted and how many records they have, or the refusal.
 fn judge(input: &[u8], wanted: Wanted, f: usize) {
     match open_input(wanted, f, WORK, 0, input) {
         Opening::Refused(number, place) => refusal::print_at(number, place),
         Opening::Accepted => {
+            let n = records_in(wanted, input);
             say::text(b"accepted: ");
-            say::number(input.len() as u64);
-            say::text(b" bytes\n");
+            say::number(n as u64);
+            if n == 1 {
+                say::text(b" record\n");
+            } else {
+                say::text(b" records\n");
+            }
         }
+    }
+}
+
+// How many records an accepted input has.
+fn records_in(wanted: Wanted, input: &[u8]) -> usize
+    ensures { λ r. ⌜ RecordsIn wanted (now (input .entry)) r ⌝ }
+{
+    let r = count_records(family_of(wanted), input);
+    r.count
+}
+
+// The family of the record that a call wants.
+fn family_of(wanted: Wanted) -> Family
+    ensures { λ r. ⌜ r ≡ wanted-family wanted ⌝ }
+{
+    match wanted {
+        Wanted::Form => Family::Form,
+        Wanted::Helper => Family::Helper,
+        Wanted::Assign => Family::Body,
     }
 }
 

@@ -14,9 +14,10 @@ use Rattle.records.specs.declared.Scan.{Scan}
 use Rattle.records.specs.Limits.{level-limit, cons-limit, lambda-limit}
 use Rattle.records.specs.declared.Zone.{Zone}
 use Rattle.records.specs.declared.Zone.the-variants.{Plain}
-use Rattle.records.specs.Read.{done, Reader, sexp, sexp-at}
+use Rattle.records.specs.Read.{Read, done, refused, Reader, sexp, sexp-at}
 use Rattle.records.specs.Scan.{scan-of, input-at, reader-of, outermost, first-scan, Comes, Reads as Anywhere}
 use Rattle.records.proofs.Complete.{context, Reads, Quiet, complete-readers, reads-binding, reads-sexp}
+use Rattle.records.proofs.Exact.{Exact}
 use Rattle.records.proofs.Scans.{going}
 use Rattle.views.specs.Parts.{Part, family-part, sexp-part, fixed-part, joined, Each, Skips, Past, from-place}
 use Rattle.names.proofs.Places.{at-left, at-right}
@@ -36,11 +37,27 @@ module _ {A : Type 0} {Q : Type 0} {m : Reader A} {mark n k : ℕ} {z : Zone} {s
 pub anywhere-comes : {A : Type 0} {m : Reader A} {s : Bytes} {c r : Scan} → Anywhere m 0 s c r → Comes m outermost s c r
 anywhere-comes h = record { there = h .anywhere outermost refl; within = h .within }
 
+-- a reading never goes back
+module _ {A : Type 0} {P : A → Type 0} {f : A → Bytes} {m : Reader A} {s : Bytes} {c r : Scan} where
+  goes-onward : Exact P f [] m → c .number ≡ 0 → c .at ≤ length s → Comes m outermost s c r → c .at ≤ r .at
+  unfolding scan-of input-at
+  goes-onward e q l g = go (m outermost (input-at 0 s c)) refl
+    where
+      ends : (o : Read A) → m outermost (input-at 0 s c) ≡ o → r .at ≡ scan-of {A = A} 0 (length s) c o .at
+      ends o z = ap (λ (v : Scan). v .at) (g .there ∙ going m outermost s c q ∙ ap (scan-of 0 (length s) c) z)
+
+      go : (o : Read A) → m outermost (input-at 0 s c) ≡ o → c .at ≤ r .at
+      go (done a j) z = omega (arith, ends (done a j) z, e .takes outermost (input-at 0 s c) a j z .2)
+      go (refused n p) z = omega (arith, ends (refused n p) z)
+
 -- where a field ends
-pub field-past : {A : Type 0} {m : Reader A} {f : A → Bytes} {P : A → Type 0} {s : Bytes} {at : ℕ} {c r : Scan}
-    → ((t : A) → P t → Quiet level-limit lambda-limit Plain m (f t) t) → c ≡ from-place at → Anywhere m 0 s c r → Past (A, f, P) s at (r .at)
-field-past {f} {at} {r} e q h = record {
+pub field-past : {A : Type 0} {m : Reader A} {f : A → Bytes} {P Q : A → Type 0} {s : Bytes} {at : ℕ} {c r : Scan}
+    → Exact Q f [] m → at ≤ length s → ((t : A) → P t → Quiet level-limit lambda-limit Plain m (f t) t) → c ≡ from-place at → Anywhere m 0 s c r → Past (A, f, P) s at (r .at)
+field-past {f} {at} {r} x l e q h = record {
   within = h .within;
+  onward =
+      let p : _ ≡ at = ap (λ (y : Scan). y .at) q in
+      rw (← p) (goes-onward x (ap (λ (y : Scan). y .number) q) (rw p l) (anywhere-comes h));
   past = λ t v a.
       let a′ : At _ _ (f t) = rw (← ap (λ (x : Scan). x .at) q) at a in
       goes-past (e t v) (ap (λ (x : Scan). x .number) q) (anywhere-comes h) a′ ∙ ap (λ (x : Scan). x .at + length (f t)) q;
@@ -52,6 +69,7 @@ skips-past {p} {s} {at} {r} h k =
     let w : take (length s - at) (drop at s) ≡ drop at s = take-all (length s - at) (drop at s) (omega (arith, length-drop at s)) in
     record {
       within = omega (arith, k .within, ap length w, length-drop at s);
+      onward = omega arith;
       past = λ t v a. ap (λ (n : ℕ). at + n) (k .skips t _ v (w ∙ at-split a));
     }
 
@@ -107,7 +125,7 @@ left-none {p} {s} {at} {i} {n} {e} h l = go (h .rest) (h .count) (h .ends)
 
 -- so many bytes
 pub fixed-past : {s : Bytes} {at n : ℕ} → at + n ≤ length s → Past (fixed-part n) s at (at + n)
-fixed-past {s} {at} h = record { within = h; past = λ t v a. ap (λ (k : ℕ). at + k) (sym v) }
+fixed-past {s} {at} h = record { within = h; onward = omega arith; past = λ t v a. ap (λ (k : ℕ). at + k) (sym v) }
 
 pub fixed-short : {s : Bytes} {at n : ℕ} → at ≤ length s → length s - at < n → Past (fixed-part n) s at (length s)
-fixed-short h l = record { within = omega arith; past = λ t v a. absurd (omega (arith, a .fits, v)) }
+fixed-short h l = record { within = omega arith; onward = h; past = λ t v a. absurd (omega (arith, a .fits, v)) }

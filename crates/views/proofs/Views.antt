@@ -1,21 +1,23 @@
 -- What each view says follows from the ends of the fields before. Assumes nothing.
-use mathlib.Core.Path.{_≡_, refl, ap, _∙_}
+use mathlib.Core.Path.{_≡_, refl}
 use mathlib.Core.List.{List, [], _∷_, _++_, flatten}
-use Prim.Native.Nat.{ℕ, _+_, _≤_}
+use Prim.Native.Nat.{ℕ, _+_, _^_, _≤_, _<_}
 use Prim.Native.String.{String}
 use native.Mathlib.Omega.{arith}
-use lib.ListN.{length, length-append}
-use Rattle.names.specs.Names.{Bytes, ascii, number-field, name-width, name-field}
+use lib.ListN.{length, take, drop, length-append}
+use Rattle.names.specs.Names.{Bytes, ascii, number-field, number-of, name-width, name-field}
 use Rattle.names.proofs.Fields.{number-field-length}
+use Rattle.names.proofs.Numbers.{number-at}
 use Rattle.names.specs.Segments.{At}
 use Rattle.records.specs.Depth.{depth}
 use Rattle.records.specs.Limits.{level-limit, cons-limit, lambda-limit}
 use Rattle.records.specs.Read.{kind-of}
-use Rattle.records.specs.Records.{loc-width, byte, record-bytes, Kind, Parallel, Sequential, Assign, kind-field, Pattern, Name, Complex, pattern-field, Tail, no-tail, tail, tail-bytes, sexp-bytes, body-bytes, binding-bytes, helper-bytes, form-bytes, bodies-count, bindings-count, helpers-count}
+use Rattle.records.specs.Records.{loc-width, integer-width, integer-field, byte, record-bytes, Kind, Parallel, Sequential, Assign, kind-field, Pattern, Name, Complex, pattern-field, Tail, no-tail, tail, tail-bytes, sexp-bytes, body-bytes, binding-bytes, helper-bytes, form-bytes, bodies-count, bindings-count, helpers-count}
 use Rattle.records.specs.Valid.{SexpFields, cons-depth, BodyFields, BindingFields, HelperFields, FormFields, lambda-depth}
 use Rattle.records.specs.declared.Family.the-variants.{Body as a-body}
 use Rattle.views.specs.Parts.{Part, Past, fixed-part, name-part, raw-part, keyword-part, hint-part, pattern-part, sexp-part, family-part}
-use Rattle.views.specs.Views.{Stands, PastHead, mark-width, SeesCall, SeesLet, SeesBinding, SeesLambda, SeesMod, SeesQuote, SeesValue, SeesForm, PastNamed, PastArgs, SeesFunction, SeesConstant, SeesMacro, SeesNamespace, SeesReference, SeesCons, SeesAtom, SeesName, TaggedAt, PatternAt, TailAt, SeesTagged}
+use Rattle.views.specs.Views.{Stands, Closes, PastHead, mark-width, SeesCall, SeesLet, SeesBinding, SeesLambda, SeesMod, SeesQuote, SeesValue, SeesForm, PastNamed, PastArgs, SeesFunction, SeesConstant, SeesMacro, SeesNamespace, SeesReference, SeesCons, SeesAtom, counted-field, SeesCounted, SeesName, SeesInteger, TaggedAt, PatternAt, TailAt, SeesTagged}
+use Rattle.views.specs.declared.NameView.{NameView}
 use Rattle.views.specs.declared.NamedView.{NamedView}
 use Rattle.views.specs.declared.ArgsView.{ArgsView}
 use Rattle.names.proofs.Places.{at-left, at-right}
@@ -40,8 +42,50 @@ pub step : {p : Part} {s : Bytes} {at r : ℕ} {fs : List Bytes} → Past p s at
 step k t v h = rw (k .past t v (first-of h)) (rest-of h)
 
 -- mark and L
-pub past-head : {s : Bytes} {a r : ℕ} → Past (fixed-part mark-width) s 0 a → Past (fixed-part loc-width) s a r → PastHead s r
-past-head x y = record { within = y .within; past = λ m l fs q v h. step y l v (step x m q h) }
+module _ {s : Bytes} where
+  pub head-short : length s < mark-width + loc-width → PastHead s (length s)
+  unfolding flatten
+  head-short h =
+      let none : (m l : Bytes) (fs : List Bytes) → length m ≡ mark-width → length l ≡ loc-width → Stands s 0 (m ∷ l ∷ fs) → ⊥ =
+      λ m l fs q v k. omega (arith, rest-of k .there .fits, length-append l (flatten fs)) in
+      record {
+        within = omega arith;
+        moved = λ p. p;
+        past = λ m l fs q v k. absurd (none m l fs q v k);
+        ends = λ m l fs q v k. absurd (none m l fs q v k);
+      }
+
+  pub head-there : mark-width + loc-width ≤ length s → PastHead s (mark-width + loc-width)
+  head-there h = record {
+    within = h;
+    moved = λ p. omega arith;
+    past = λ m l fs q v k. rw (q, v) at (rest-of (rest-of k));
+    ends = λ m l fs q v k. omega (arith, q, v);
+  }
+
+-- the fields that are left of a record after its mark, after its mark and L, and after the first of them
+module _ {s : Bytes} {r : ℕ} (m : String) where
+  pub close-mark : Past (fixed-part mark-width) s 0 r → (fs : List Bytes) → length (ascii m) ≡ mark-width → At s 0 (record-bytes m fs) → Closes s r fs (length (record-bytes m fs))
+  unfolding record-bytes
+  close-mark k fs e a =
+      let h = opened m fs a in
+      let q = k .past (ascii m) e (first-of h) in
+      record { there = step k (ascii m) e h; moved = omega (arith, q, e); whole = omega (arith, q, length-append (ascii m) (flatten fs)) }
+
+  pub close-head : PastHead s r → (l : Bytes) (fs : List Bytes) → length (ascii m) ≡ mark-width → length l ≡ loc-width → At s 0 (record-bytes m (l ∷ fs))
+      → Closes s r fs (length (record-bytes m (l ∷ fs)))
+  unfolding record-bytes flatten
+  close-head x l fs e v a =
+      let h = opened m (l ∷ fs) a in
+      let q = x .ends (ascii m) l fs e v h in
+      record { there = x .past (ascii m) l fs e v h; moved = omega (arith, q, e); whole = omega (arith, q, length-append (ascii m) (l ++ flatten fs), length-append l (flatten fs)) }
+
+pub close-on : {s : Bytes} {at n : ℕ} {f : Bytes} {fs : List Bytes} (r : ℕ) → r ≡ at + length f → Closes s at (f ∷ fs) n → Closes s r fs n
+unfolding flatten
+close-on {f = f} {fs} r e h = record { there = rw e (rest-of (h .there)); moved = omega (arith, h .moved); whole = omega (arith, h .whole, length-append f (flatten fs)) }
+
+pub close-step : {p : Part} {s : Bytes} {at r n : ℕ} {fs : List Bytes} → Past p s at r → (t : p .0) → p .2 t → Closes s at (p .1 t ∷ fs) n → Closes s r fs n
+close-step k t v h = close-on _ (k .past t v (first-of (h .there))) h
 
 -- the byte at a place
 abbrev pub ByteAt : Bytes → ℕ → ℕ → Type 0
@@ -64,16 +108,41 @@ pub byte-length : (b : ℕ) → length (byte b) ≡ 1
 unfolding byte
 byte-length b = refl
 
--- a name's length is a field of its own
-module _ {s : Bytes} {at start end : ℕ} where
-  pub sees-name : Past (fixed-part name-width) s at start → Past name-part s at end → SeesName s at (record { start = start; end = end })
-  unfolding name-field
-  sees-name x y n v a =
-      let f = number-field name-width (length n) in
-      let w : start ≡ at + name-width = x .past f (number-field-length name-width (length n)) (at-left f n a) ∙ ap (λ (k : ℕ). at + k) (number-field-length name-width (length n)) in
-      let e : end ≡ at + length (f ++ n) = y .past n v a in
-      let b : At s (at + name-width) n = rw number-field-length at (at-right f n a) in
-      record { bytes = rw w b; ends = omega (arith, w, e, length-append f n, number-field-length name-width (length n)) }
+-- bytes after their length: where they start and end
+module _ {s : Bytes} (at w : ℕ) where
+  -- what is known of bytes that stand there
+  counted-at : (n : Bytes) → length n < 256 ^ w → At s at (counted-field w n) → At s (at + w) n × (number-of (take w (drop at s)) ≡ length n)
+  unfolding counted-field
+  counted-at n v a =
+      let f = number-field w (length n) in
+      (rw number-field-length at (at-right f n a), number-at w (length n) v (at-left f n a))
+
+  pub sees-none : length s < at + w + number-of (take w (drop at s)) → SeesCounted w s at (record { start = length s; end = length s })
+  sees-none h = record {
+    forward = omega arith;
+    within = omega arith;
+    sees = λ n v a. let q = counted-at n v a in absurd (omega (arith, q .0 .fits, q .1));
+  }
+
+  pub sees-counted : {k : ℕ} → k ≡ number-of (take w (drop at s)) → at + w + k ≤ length s → SeesCounted w s at (record { start = at + w; end = at + w + k })
+  unfolding counted-field
+  sees-counted e h = record {
+    forward = omega arith;
+    within = h;
+    sees = λ n v a.
+        let q = counted-at n v a in
+        let f = number-field w (length n) in
+        record { bytes = q .0; ends = omega (arith, e, q .1); past = omega (arith, e, q .1, length-append f n, number-field-length w (length n)) };
+  }
+
+module _ {s : Bytes} {at : ℕ} {v : NameView} where
+  pub sees-name : SeesCounted name-width s at v → SeesName s at v
+  unfolding counted-field name-field
+  sees-name h = record { forward = h .forward; within = h .within; sees = λ n f a. h .sees n (omega arith) a }
+
+  pub sees-integer : SeesCounted integer-width s at v → SeesInteger s at v
+  unfolding counted-field integer-field
+  sees-integer h = record { forward = h .forward; within = h .within; sees = λ n f a. h .sees n (f .1) a }
 
 -- a byte that says what follows
 module _ {s : Bytes} {at tag next : ℕ} (h : ByteAt s at tag) (x : Past (fixed-part 1) s at next) where
@@ -94,55 +163,77 @@ module _ {s : Bytes} {at tag next : ℕ} (h : ByteAt s at tag) (x : Past (fixed-
   tagged-tail (tail b) a = tagged 1 (body-bytes b) a
 
   pub sees-tagged : SeesTagged s at (record { tag = tag; next = next })
-  sees-tagged = record { pattern = tagged-pattern; tail-of = tagged-tail }
+  sees-tagged = record { within = x .within; past = x; pattern = tagged-pattern; tail-of = tagged-tail }
 
 module _ {s : Bytes} {at first count : ℕ} where
   pub sees-call : PastHead s at → ByteAt s at count → Past (fixed-part 1) s at first → SeesCall s (record { count = count; first = first })
   unfolding ascii body-bytes BodyFields
-  sees-call x c y l bs t v a =
-      let h = x .past (ascii "BC") l _ refl (v .0 .0) (opened "BC" _ a) in
-      record { count = c _ (first-of h); rest = step y _ (byte-length (bodies-count bs)) h }
+  sees-call x c y = record {
+    within = y .within;
+    sees = λ l bs t v a.
+        let h = x .past (ascii "BC") l _ refl (v .0 .0) (opened "BC" _ a) in
+        record { count = c _ (first-of h); rest = step y _ (byte-length (bodies-count bs)) h };
+    closes = λ l bs t v a. close-step y _ (byte-length (bodies-count bs)) (close-head "BC" x l _ refl (v .0 .0) a);
+  }
 
 module _ {s : Bytes} {m kind loc keyword hint at count first : ℕ} where
   pub sees-let : Past (fixed-part mark-width) s 0 m → ByteAt s m kind → Past (fixed-part 1) s m loc → Past (fixed-part loc-width) s loc keyword → Past keyword-part s keyword hint
       → Past hint-part s hint at → ByteAt s at count → Past (fixed-part 1) s at first
       → SeesLet s (record { kind = kind; loc = loc; keyword = keyword; hint = hint; count = count; first = first })
   unfolding ascii body-bytes BodyFields
-  sees-let xm bk xk xl xw xh bc xc k l w h bs b v a =
-      let hk = step xm (ascii "BL") refl (opened "BL" _ a) in
-      let hl = step xk (kind-field k) (kind-length k) hk in
-      let hw = step xl l (v .0 .0) hl in
-      let hh = step xw w (v .0 .1) hw in
-      let hc = step xh h (v .0 .2) hh in
-      record {
-        kind = kind-at bk k (first-of hk);
-        loc = first-of hl;
-        keyword = first-of hw;
-        hint = first-of hh;
-        count = bc _ (first-of hc);
-        rest = step xc _ (byte-length (bindings-count bs)) hc;
-      }
+  sees-let xm bk xk xl xw xh bc xc = record {
+    within = xc .within;
+    sees = λ k l w h bs b v a.
+        let hk = step xm (ascii "BL") refl (opened "BL" _ a) in
+        let hl = step xk (kind-field k) (kind-length k) hk in
+        let hw = step xl l (v .0 .0) hl in
+        let hh = step xw w (v .0 .1) hw in
+        let hc = step xh h (v .0 .2) hh in
+        record {
+          kind = kind-at bk k (first-of hk);
+          loc = first-of hl;
+          keyword = first-of hw;
+          hint = first-of hh;
+          count = bc _ (first-of hc);
+          rest = step xc _ (byte-length (bindings-count bs)) hc;
+        };
+    closes = λ k l w h bs b v a.
+        let hl = close-step xk (kind-field k) (kind-length k) (close-mark "BL" xm _ refl a) in
+        close-step xc _ (byte-length (bindings-count bs)) (close-step xh h (v .0 .2) (close-step xw w (v .0 .1) (close-step xl l (v .0 .0) hl)));
+  }
 
 module _ {s : Bytes} {at pattern body : ℕ} where
   pub sees-binding : PastHead s at → Past (fixed-part loc-width) s at pattern → Past pattern-part s pattern body → SeesBinding s (record { pattern = pattern; body = body })
   unfolding ascii binding-bytes BindingFields
-  sees-binding x xl xp l nl p b v a =
-      let hp = step xl nl (v .0 .1) (x .past (ascii "BB") l _ refl (v .0 .0) (opened "BB" _ a)) in
-      record { pattern = first-of hp; body = first-of (step xp p (v .0 .2) hp) }
+  sees-binding x xl xp = record {
+    pattern-within = xl .within;
+    body-within = xp .within;
+    sees = λ l nl p b v a.
+        let hp = step xl nl (v .0 .1) (x .past (ascii "BB") l _ refl (v .0 .0) (opened "BB" _ a)) in
+        record { pattern = first-of hp; body = first-of (step xp p (v .0 .2) hp) };
+  }
 
 module _ {s : Bytes} {keyword ca captures args body : ℕ} where
   pub sees-lambda : PastHead s keyword → Past keyword-part s keyword ca → Past sexp-part s ca captures → Past (family-part a-body) s captures args → Past sexp-part s args body
       → SeesLambda s (record { keyword = keyword; binders = ca; captures = captures; args = args; body = body })
   unfolding ascii body-bytes BodyFields depth lambda-depth
-  sees-lambda x xw xca xc xa l w ca′ c a b v e =
-      let hw = x .past (ascii "BF") l _ refl (v .0 .0) (opened "BF" _ e) in
-      let hca = step xw w (v .0 .1) hw in
-      let hc = step xca ca′ (v .0 .2) hca in
-      let d : depth c ≤ level-limit = omega (arith, v .1) in
-      let ld : lambda-depth c ≤ lambda-limit = omega (arith, v .2) in
-      let ha = step xc c (v .0 .3, d, ld) hc in
-      let hb = step xa a (v .0 .4) ha in
-      record { keyword = first-of hw; binders = first-of hca; captures = first-of hc; args = first-of ha; body = first-of hb }
+  sees-lambda x xw xca xc xa = record {
+    binders-within = xw .within;
+    args-within = xc .within;
+    sees = λ l w ca′ c a b v e.
+        let hw = x .past (ascii "BF") l _ refl (v .0 .0) (opened "BF" _ e) in
+        let hca = step xw w (v .0 .1) hw in
+        let hc = step xca ca′ (v .0 .2) hca in
+        let d : depth c ≤ level-limit = omega (arith, v .1) in
+        let ld : lambda-depth c ≤ lambda-limit = omega (arith, v .2) in
+        let ha = step xc c (v .0 .3, d, ld) hc in
+        let hb = step xa a (v .0 .4) ha in
+        record { keyword = first-of hw; binders = first-of hca; captures = first-of hc; args = first-of ha; body = first-of hb };
+    closes = λ l w ca′ c a b v e.
+        let d : depth c ≤ level-limit = omega (arith, v .1) in
+        let ld : lambda-depth c ≤ lambda-limit = omega (arith, v .2) in
+        close-step xc c (v .0 .3, d, ld) (close-step xca ca′ (v .0 .2) (close-step xw w (v .0 .1) (close-head "BF" x l _ refl (v .0 .0) e)));
+  }
 
 module _ {s : Bytes} {r : ℕ} where
   pub sees-mod : PastHead s r → SeesMod s r

@@ -11,8 +11,8 @@ use Rattle.records.specs.declared.Family.the-variants.{Body as a-body, Binding 
 use Rattle.records.specs.declared.Scan.{Scan}
 use Rattle.records.specs.Depth.{bodies-depth, binding-depth, bindings-depth, helpers-depth}
 use Rattle.records.specs.Limits.{level-limit, lambda-limit}
-use Rattle.records.specs.Records.{Sexp, sexp-bytes, Pattern, pattern-field, Body, body-bytes, Bodies, bodies-bytes, bodies-count, Binding, binding-bytes, Bindings, bindings-bytes, bindings-count, Helper, helper-bytes, Helpers, helpers-bytes, helpers-count, Form, form-bytes}
-use Rattle.records.specs.Valid.{ValidName, ValidRaw, ValidKeyword, ValidHint, ValidSexp, ValidPattern, BodiesFields, BindingFields, BindingsFields, HelpersFields, bodies-lambda-depth, binding-lambda-depth, bindings-lambda-depth, helpers-lambda-depth, ValidBody, ValidHelper, ValidForm}
+use Rattle.records.specs.Records.{integer-field, Sexp, sexp-bytes, Pattern, pattern-field, Body, body-bytes, Bodies, bodies-bytes, bodies-count, Binding, binding-bytes, Bindings, bindings-bytes, bindings-count, Helper, helper-bytes, Helpers, helpers-bytes, helpers-count, Form, form-bytes}
+use Rattle.records.specs.Valid.{ValidName, ValidInteger, ValidRaw, ValidKeyword, ValidHint, ValidSexp, ValidPattern, BodiesFields, BindingFields, BindingsFields, HelpersFields, bodies-lambda-depth, binding-lambda-depth, bindings-lambda-depth, helpers-lambda-depth, ValidBody, ValidHelper, ValidForm}
 
 -- trees, their bytes, and which of them are meant
 abbrev pub Part : Type 1
@@ -33,12 +33,15 @@ family-part a-form = (Form, form-bytes, ValidForm)
 abbrev pub sexp-part : Part
 sexp-part = (Sexp, sexp-bytes, ValidSexp)
 
--- the fields: so many bytes, a name, R, K, a hint, a pattern
+-- the fields: so many bytes, a name, an integer, R, K, a hint, a pattern
 abbrev pub fixed-part : ℕ → Part
 fixed-part w = (Bytes, (λ x. x), λ x. length x ≡ w)
 
 abbrev pub name-part : Part
 name-part = (Bytes, name-field, ValidName)
+
+abbrev pub integer-part : Part
+integer-part = (Bytes, integer-field, ValidInteger)
 
 abbrev pub raw-part : Part
 raw-part = (Bytes, (λ x. x), ValidRaw)
@@ -81,9 +84,10 @@ pub record Skips (p : Part) (s : Bytes) (r : ℕ) : Type 0 where
   pub within : r ≤ length s
   pub skips : (t : p .0) (more : Bytes) → p .2 t → s ≡ p .1 t ++ more → r ≡ length (p .1 t)
 
--- r is where the tree ends whose bytes stand in s from `at` on
+-- r is where the tree ends whose bytes stand in s from `at` on, and in no case before `at`
 pub record Past (p : Part) (s : Bytes) (at r : ℕ) : Type 0 where
   pub within : r ≤ length s
+  pub onward : at ≤ r
   pub past : (t : p .0) → p .2 t → At s at (p .1 t) → r ≡ at + length (p .1 t)
 
 -- a reading that has come to a place

@@ -1,5 +1,6 @@
 // Views of the form records: from a record's mark, where its fields and children start.
 pub mod bodies;
+pub mod count;
 pub mod helpers;
 pub mod past;
 pub mod sexps;
@@ -87,4 +88,19 @@ pub struct NamespaceView {
 pub struct ConsView {
     pub head: usize,
     pub tail: usize,
+}
+
+// An S record. Tag 0: an SN that ends at `end`. Tag 1: an SC whose head starts at `start`. Tag 2: an
+// SI, SQ or SA whose number, text or name stands from `start` to `end`, where the record ends too.
+// Tag 3: none of them.
+pub struct SexpView {
+    pub tag: u8,
+    pub start: usize,
+    pub end: usize,
+}
+
+// How many records a record has, and where it ends.
+pub struct Counted {
+    pub count: usize,
+    pub end: usize,
 }

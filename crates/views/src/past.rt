@@ -3,6 +3,8 @@ use crate::MARK_WIDTH;
 use crate::NameView;
 use crate::TaggedView;
 use names::NAME_WIDTH;
+use names::bytes::number;
+use records::INTEGER_WIDTH;
 use records::LOC_WIDTH;
 use records::Scan;
 use records::fields::hint;
@@ -15,8 +17,8 @@ ghost use Prim.Native.Nat.{ℕ, _≤_};
 ghost use lib.ListN.{length};
 ghost use Rattle.names.specs.Segments.{At};
 ghost use Rattle.records.specs.Records.{byte};
-ghost use Rattle.views.specs.Views.{PastHead, SeesName, SeesTagged};
-ghost use Rattle.views.specs.Parts.{fixed-part, name-part, raw-part, keyword-part, hint-part, pattern-part, from-place, Past};
+ghost use Rattle.views.specs.Views.{PastHead, SeesCounted, SeesName, SeesInteger, SeesTagged};
+ghost use Rattle.views.specs.Parts.{fixed-part, name-part, integer-part, raw-part, keyword-part, hint-part, pattern-part, from-place, Past};
 
 // A reading that has come to a place.
 fn from_place(at: usize) -> Scan
@@ -45,7 +47,11 @@ pub fn past_bytes(s: &[u8], at: usize, n: usize) -> usize
 pub fn past_head(s: &[u8]) -> usize
     ensures { λ r. ⌜ PastHead (now (s .entry)) r ⌝ }
 {
-    past_bytes(s, past_bytes(s, 0, MARK_WIDTH), LOC_WIDTH)
+    let head = MARK_WIDTH + LOC_WIDTH;
+    if s.len() < head {
+        return s.len();
+    }
+    head
 }
 
 // A name.
@@ -55,6 +61,15 @@ pub fn past_name(s: &[u8], at: usize) -> usize
 {
     let r = name(s, 0, from_place(at));
     r.at
+}
+
+// A number.
+pub fn past_integer(s: &[u8], at: usize) -> usize
+    requires { ⌜ at ≤ length (now s) ⌝ }
+    ensures { λ r. ⌜ Past integer-part (now (s .entry)) at r ⌝ }
+{
+    let start = past_bytes(s, at, INTEGER_WIDTH);
+    past_bytes(s, start, byte_at(s, at) as usize)
 }
 
 // A field that is only copied.
@@ -103,14 +118,41 @@ pub fn byte_at(s: &[u8], at: usize) -> u8
     s[at]
 }
 
+// Bytes that stand at a place after their length of `width` bytes. Where some are missing, none at
+// the end of the bytes.
+fn counted_view(s: &[u8], at: usize, width: usize) -> NameView
+    requires { ⌜ (at ≤ length (now s)) × (width ≤ 8) ⌝ }
+    ensures { λ r. ⌜ SeesCounted width (now (s .entry)) at r ⌝ }
+{
+    let end = s.len();
+    if end - at < width {
+        return NameView { start: end, end };
+    }
+    let start = at + width;
+    let n = number(s, at, width);
+    if end - start < n {
+        return NameView { start: end, end };
+    }
+    NameView {
+        start,
+        end: start + n,
+    }
+}
+
 // The bytes of the name that stands at a place.
 pub fn name_view(s: &[u8], at: usize) -> NameView
     requires { ⌜ at ≤ length (now s) ⌝ }
     ensures { λ r. ⌜ SeesName (now (s .entry)) at r ⌝ }
 {
-    let start = past_bytes(s, at, NAME_WIDTH);
-    let end = past_name(s, at);
-    NameView { start, end }
+    counted_view(s, at, NAME_WIDTH)
+}
+
+// The bytes of the number that stands at a place.
+pub fn integer_view(s: &[u8], at: usize) -> NameView
+    requires { ⌜ at ≤ length (now s) ⌝ }
+    ensures { λ r. ⌜ SeesInteger (now (s .entry)) at r ⌝ }
+{
+    counted_view(s, at, INTEGER_WIDTH)
 }
 
 // A binding's pattern (0: a name, 1: an S record) or a call's tail (0: none, 1: a body) at a place.

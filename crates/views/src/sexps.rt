@@ -1,8 +1,15 @@
-// Views of the S records that a walk goes into.
+// Views of the S records.
 use crate::ConsView;
+use crate::NameView;
+use crate::SexpView;
+use crate::past::integer_view;
+use crate::past::name_view;
+use crate::past::past_bytes;
 use crate::past::past_head;
 use crate::skip::past_sexp;
-ghost use Rattle.views.specs.Views.{SeesCons, SeesAtom};
+use records::sexp::sexp_mark;
+ghost use mathlib.Core.Path.{_≡_};
+ghost use Rattle.views.specs.Views.{SeesCons, SeesAtom, SeesSexp, leaf-of};
 
 // An SC.
 pub fn cons_view(s: &[u8]) -> ConsView
@@ -18,4 +25,43 @@ pub fn atom_view(s: &[u8]) -> usize
     ensures { λ r. ⌜ SeesAtom (now (s .entry)) r ⌝ }
 {
     past_head(s)
+}
+
+// An SI, SQ or SA by its bytes.
+fn leaf(v: NameView) -> SexpView
+    ensures { λ r. ⌜ r ≡ leaf-of v ⌝ }
+{
+    SexpView {
+        tag: 2,
+        start: v.start,
+        end: v.end,
+    }
+}
+
+// An S record of any kind.
+pub fn sexp_view(s: &[u8]) -> SexpView
+    ensures { λ r. ⌜ SeesSexp (now (s .entry)) r ⌝ }
+{
+    let head = past_head(s);
+    let k = sexp_mark(s);
+    match k {
+        0 => SexpView {
+            tag: 0,
+            start: head,
+            end: head,
+        },
+        1 => SexpView {
+            tag: 1,
+            start: head,
+            end: head,
+        },
+        2 => leaf(integer_view(s, head)),
+        3 => leaf(name_view(s, past_bytes(s, head, 1))),
+        4 => leaf(name_view(s, head)),
+        _ => SexpView {
+            tag: 3,
+            start: s.len(),
+            end: s.len(),
+        },
+    }
 }

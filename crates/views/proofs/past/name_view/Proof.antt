@@ -5,7 +5,7 @@ use Rattle.views.proofs.past.name_view.Statement.{statement}
 use Rattle.views.proofs.past.name_view.Tie as tie
 
 returns : tie.Need-returns
-returns c = sees-name (c .before .past-bytes .ensures) (c .past-name .ensures)
+returns c = sees-name (c .counted-view .ensures)
 
 pub name-view-spec : {M : Type 1} → statement M
-name-view-spec = tie.close (tie.spec (λ c κs. search needs) (λ c κs. search needs) returns)
+name-view-spec = tie.close (tie.spec (λ c κs. search needs) returns)

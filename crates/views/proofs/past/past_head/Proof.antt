@@ -1,11 +1,15 @@
 -- `views::past::past_head` meets its contract. Assumes nothing.
 use borrow.Author.Needs.{needs}
-use Rattle.views.proofs.Views.{past-head}
+use native.Mathlib.Omega.{arith}
+use Rattle.views.proofs.Views.{head-short, head-there}
 use Rattle.views.proofs.past.past_head.Statement.{statement}
 use Rattle.views.proofs.past.past_head.Tie as tie
 
 returns : tie.Need-returns
-returns c = past-head (c .before .past-bytes .ensures) (c .past-bytes2 .ensures)
+returns c = head-short (omega arith)
+
+returns-2 : tie.Need-returns-2
+returns-2 c = head-there (omega arith)
 
 pub past-head-spec : {M : Type 1} → statement M
-past-head-spec = tie.close (tie.spec (λ c κs. search needs) (λ c κs. search needs) returns)
+past-head-spec = tie.close (tie.spec (λ c. search needs) returns returns-2)

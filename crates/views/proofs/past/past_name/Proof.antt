@@ -1,6 +1,7 @@
 -- `views::past::past_name` meets its contract. Assumes nothing.
 use borrow.Author.Needs.{needs}
 use Rattle.records.proofs.Complete.{reads-name}
+use Rattle.records.proofs.Exact.{exact-name}
 use Rattle.views.proofs.Parts.{field-past}
 use Rattle.views.proofs.past.past_name.Statement.{statement}
 use Rattle.views.proofs.past.past_name.Tie as tie
@@ -9,7 +10,7 @@ name-requires : tie.Need-name-requires
 name-requires c κs = rw (c .from-place .ensures) (search needs)
 
 returns : tie.Need-returns
-returns c = field-past (λ t v. reads-name v) (c .before .from-place .ensures) (c .name .ensures)
+returns c = field-past exact-name (search needs) (λ t v. reads-name v) (c .before .from-place .ensures) (c .name .ensures)
 
 pub past-name-spec : {M : Type 1} → statement M
 past-name-spec = tie.close (tie.spec (λ c κs. search needs) name-requires returns)
