@@ -1,12 +1,23 @@
-// The reader for Rust and C to link, as tools/bench asks for it.
+// The reader and the order for Rust and C to link, as tools/bench asks for them.
+use ordering::call::order_call;
 use records::MOST_LONGEST;
 use records::Opening;
 use records::WORK_FACTOR;
 use records::Wanted;
 use records::input::open_input;
+ghost use mathlib.Core.Path.{_≡_};
+ghost use Prim.Native.Nat.{_*_};
+ghost use lib.ListN.{length};
+ghost use Rattle.records.specs.Limits.{most-longest, work-factor};
+ghost use Rattle.records.specs.Opened.{open-input};
+ghost use Rattle.records.specs.Scan.{wanted-reader, opening-of};
+ghost use Rattle.ordering.specs.OrderCall.{order-call};
+ghost use Rattle.exports.specs.Linked.{wanted-of, number-of, place-of};
 
 // The record that a kind asks for: 0 a CF, 1 an H record, else an assign.
-fn wanted(kind: u8) -> Wanted {
+fn wanted(kind: u8) -> Wanted
+    ensures { λ r. ⌜ r ≡ wanted-of kind ⌝ }
+{
     match kind {
         0 => Wanted::Form,
         1 => Wanted::Helper,
@@ -16,7 +27,10 @@ fn wanted(kind: u8) -> Wanted {
 
 // Reads an input: the refusal's number, or 0, and its place.
 #[no_mangle]
-pub extern "C" fn records_open(kind: u8, input: &[u8], f: usize, place: &mut u64) -> u32 {
+pub extern "C" fn records_open(kind: u8, input: &[u8], f: usize, place: &mut u64) -> u32
+    ensures { λ r. ⌜ r ≡ number-of (opening-of (open-input (wanted-reader (wanted-of kind) .1) f (work-factor * most-longest) 0 (now (input .entry)))) ⌝ }
+    ensures { λ _. ⌜ now (place .exit) ≡ place-of (opening-of (open-input (wanted-reader (wanted-of kind) .1) f (work-factor * most-longest) 0 (now (input .entry)))) ⌝ }
+{
     let opening = open_input(wanted(kind), f, WORK_FACTOR * MOST_LONGEST, 0, input);
     match opening {
         Opening::Accepted => {
@@ -28,4 +42,25 @@ pub extern "C" fn records_open(kind: u8, input: &[u8], f: usize, place: &mut u64
             n
         }
     }
+}
+
+// The call Order: its number, and the rest of its answer but the counter, which stays.
+#[no_mangle]
+pub extern "C" fn order(
+    f: usize,
+    work: &mut [u8],
+    counter: u64,
+    input: &[u8],
+    result: &mut [u8],
+    place: &mut u64,
+    rounds: &mut u64,
+    len: &mut u64,
+) -> u32
+    ensures { λ r. ⌜ (record { number = r; place = now (place .exit); counter = counter; rounds = now (rounds .exit); len = now (len .exit) }, now (result .exit)) ≡ order-call f (length (now (work .entry))) counter (now (input .entry)) (now (result .entry)) ⌝ }
+{
+    let a = order_call(f, work, counter, input, result);
+    *place = a.place;
+    *rounds = a.rounds;
+    *len = a.len as u64;
+    a.number
 }

@@ -1,8 +1,23 @@
 pub mod Answers
+mod Bits
+mod Bodies
+pub mod Bound
+pub mod Collected
+mod EntryLaws
 mod Examples
+mod Few
 mod Lists
 pub mod Loop
-pub mod Toposort
+mod NeedLaws
+pub mod OrderLaws
+mod Pass
+mod Patterns
+mod Provided
+pub mod Rounds
 mod Rows
+mod Search
+mod Several
+mod Sexps
 mod Swap
 mod Tests
+pub mod Toposort

@@ -1,41 +1,17 @@
--- The tests and the turn in the form in which a loop meets them: one element more, and one pass over the row.
+-- The turn in the form in which a loop meets it: one pass over the row.
 -- Assumes nothing.
 use Prim.Native.Nat.{ℕ, zero, suc, _+_, _-_, _≤_, _<_}
 use native.Mathlib.Nat.{le-refl, le-trans}
+use native.Mathlib.Numerals.{add-one}
 use native.Mathlib.Omega.{arith}
 use mathlib.Core.Path.{_≡_, refl, _∙_, subst⁻¹}
-use mathlib.Core.Bool.{Bool, true, false, cond, _&&_, _||_}
-use mathlib.Core.List.{List, [], _∷_, _++_, foldl}
+use mathlib.Core.Bool.{Bool, true, false, cond}
+use mathlib.Core.List.{List, _∷_, foldl}
 use lib.ListN.{length, getD, set, take}
-use lib.Seq.{take-suc, take-set-le}
-use Rattle.ordering.specs.Items.{Item, any, all, keep}
+use lib.Seq.{take-set-le}
+use Rattle.ordering.specs.Items.{Item, keep}
 use Rattle.ordering.specs.Toposort.{Row, indices-from, ready, picked, swap, place, turn}
-use Rattle.ordering.proofs.Swap.{length-swap, swap-at}
-
-module _ {A : Type 0} (f : A → Bool) where
-  any-append : (s t : List A) → any f (s ++ t) ≡ (any f s || any f t)
-  any-append [] t = refl
-  any-append (x ∷ xs) t = go (f x) (any-append xs t)
-    where
-      go : (b : Bool) → any f (xs ++ t) ≡ (any f xs || any f t) → (b || any f (xs ++ t)) ≡ (b || any f xs || any f t)
-      go true e = refl
-      go false e = e
-
-  all-append : (s t : List A) → all f (s ++ t) ≡ (all f s && all f t)
-  all-append [] t = refl
-  all-append (x ∷ xs) t = go (f x) (all-append xs t)
-    where
-      go : (b : Bool) → all f (xs ++ t) ≡ (all f xs && all f t) → (b && all f (xs ++ t)) ≡ (b && all f xs && all f t)
-      go true e = e
-      go false e = refl
-
-  module _ (l : List A) (k : ℕ) (d : A) (h : k < length l) where
-    -- the first k + 1 pass a test, from the first k
-    pub any-next : any f (take (suc k) l) ≡ (any f (take k l) || (f (getD l k d) || false))
-    any-next = rw (take-suc l k d h) (any-append (take k l) (getD l k d ∷ []))
-
-    pub all-next : all f (take (suc k) l) ≡ (all f (take k l) && (f (getD l k d) && true))
-    all-next = rw (take-suc l k d h) (all-append (take k l) (getD l k d ∷ []))
+use Rattle.ordering.proofs.Swap.{length-swap, swap-back, swap-at}
 
 module _ (bs : List Item) where
   -- one position of a turn at whose start k were placed
@@ -80,3 +56,29 @@ module _ (bs : List Item) where
   one-pass r h =
       pass (r .placed) (r .row) (length (r .row) - r .placed) (r .placed) r
       (le-refl (r .placed)) (le-refl (r .placed)) (omega arith) (λ p l. refl) refl
+
+  -- what a turn at whose start k were placed makes of a row, from the position p on
+  abbrev pub from : ℕ → List ℕ → ℕ → ℕ → Row
+  from k row left p = foldl (step k) (record { row = row; placed = left }) (indices-from p (length row - p))
+
+  pub pass-begins : (row : List ℕ) (k : ℕ) → k ≤ length row → turn bs (record { row = row; placed = k }) ≡ from k row k k
+  pass-begins row k h = one-pass (record { row = row; placed = k }) h
+
+  module _ (k : ℕ) (row : List ℕ) (left p : ℕ) where
+    pub pass-ends : length row ≤ p → from k row left p ≡ record { row = row; placed = left }
+    pass-ends h = let e : length row - p ≡ 0 = omega arith in rw e
+
+    next : p < length row → from k row left p ≡ foldl (step k) (step k (record { row = row; placed = left }) p) (indices-from (suc p) (length row - suc p))
+    next h = let e : length row - p ≡ suc (length row - suc p) = omega arith in rw e
+
+    -- an index that is not ready stays
+    pub pass-stays : p < length row → ready bs (take k row) (getD row p 0) ≡ false → from k row left p ≡ from k row left (p + 1)
+    unfolding step
+    pass-stays h e = next h ∙ rw (e, add-one)
+
+    -- one that is ready changes places with the leftmost one not yet placed
+    pub pass-places : left ≤ p → p < length row → ready bs (take k row) (getD row p 0) ≡ true
+        → from k row left p ≡ from k (set (set row p (getD row left 0)) left (getD row p 0)) (left + 1) (p + 1)
+    unfolding step
+    pass-places le h e =
+        next h ∙ rw (e, swap-back row left p (omega arith) h, length-swap row left p (omega arith) h, add-one left, add-one p)

@@ -10,7 +10,7 @@ use lib.Dec.{T}
 use lib.ListN.{length, getD, take, length-append, List·getD-append}
 use lib.Seq.{take-append-le, take-append-seam, getD-append-seam}
 use Rattle.names.specs.Names.{Bytes}
-use Rattle.ordering.specs.Items.{Item, item-at, keep}
+use Rattle.ordering.specs.Items.{Item, keep}
 use Rattle.ordering.specs.Toposort.{Row, indices-from, start, ready, picked, place, turn}
 use Rattle.ordering.specs.Lawful.{_is-in_, Provides, Needs, OfAll, Lawful}
 use Rattle.ordering.proofs.Lists.{by-cond, in-at, at-in, at-in-take, in-keep}
@@ -26,6 +26,9 @@ pub count-at : (a n k : ℕ) → k < n → getD (indices-from a n) k 0 ≡ a + k
 count-at a zero k h = absurd (not-suc-le-zero h)
 count-at a (suc n) zero h = omega arith
 count-at a (suc n) (suc k) h = omega (arith, count-at (suc a) n k (omega arith))
+
+pub count-below : (n k : ℕ) → k < length (indices-from 0 n) → getD (indices-from 0 n) k 0 < length (indices-from 0 n)
+count-below n k h = omega (arith, length-count 0 n, count-at 0 n k (omega (arith, length-count 0 n)))
 
 pub in-count : (a n k : ℕ) → a ≤ k → k < a + n → k is-in indices-from a n
 in-count a n k h l =

@@ -7,7 +7,7 @@ use mathlib.Core.Path.{_≡_, refl, sym, _∙_}
 use mathlib.Core.Logic.{_≢_}
 use mathlib.Core.List.{List, [], _∷_, _++_}
 use lib.ListN.{length, getD, set, take, length-set}
-use lib.Seq.{getD-set-same, getD-set-other, set-set, lt-length-set, take-suc-set, take-set-le}
+use lib.Seq.{getD-set-same, getD-set-other, set-set, set-comm, lt-length-set, take-suc-set, take-set-le}
 use Rattle.ordering.specs.Toposort.{swap}
 use Rattle.ordering.specs.Lawful.{OfAll}
 use Rattle.ordering.proofs.Lists.{in-at, at-in}
@@ -45,6 +45,15 @@ module _ (l : List ℕ) (i j : ℕ) (hi : i < length l) (hj : j < length l) wher
   pub length-swap : length (swap l i j) ≡ length l
   unfolding swap
   length-swap = simp length-set
+
+  -- the same, the other way round
+  pub swap-back : set (set l j (getD l i 0)) i (getD l j 0) ≡ swap l i j
+  unfolding swap
+  swap-back =
+      elim (ℕ-discrete i j) [
+        | yes e ↦ rw e
+        | no n ↦ set-comm l j i (getD l i 0) (getD l j 0) (λ e. n (sym e))
+      ]
 
   pub swap-at : (k : ℕ) → k ≢ i → k ≢ j → getD (swap l i j) k 0 ≡ getD l k 0
   unfolding swap

@@ -3,3 +3,7 @@ pub mod Toposort
 pub mod Lawful
 pub mod Words
 pub mod OrderCall
+pub mod Needs
+pub mod Provisions
+pub mod Listing
+pub mod Assign

@@ -1,19 +1,19 @@
 -- The call Order.
 -- Assumes nothing.
 use mathlib.Core.Bool.{true, false}
-use mathlib.Core.List.{List, [], List·Permᴰ}
+use mathlib.Core.List.{List, []}
 use mathlib.Core.Logic.{_≢_}
 use mathlib.Core.Path.{_≡_}
 use Prim.Native.Nat.{ℕ, _≤_}
 use lib.Dec.{leb}
-use lib.ListN.{length, take, drop}
+use lib.ListN.{length}
 use Rattle.names.specs.Answers.{Result, written, refusal}
 use Rattle.names.specs.Names.{Bytes}
 use Rattle.records.specs.Records.{Loc, loc-number, Body, BL, BQ, BV, BC, BM, BF, Binding, list-of}
 use Rattle.records.specs.Read.{assign-of}
 use Rattle.records.specs.Opened.{opened, closed, open-input}
-use Rattle.ordering.specs.Toposort.{ordered, deadlock}
-use Rattle.ordering.specs.Words.{toposort-assign-bindings}
+use Rattle.ordering.specs.Toposort.{ordered, deadlock, rounds}
+use Rattle.ordering.specs.Words.{items, toposort-assign-bindings}
 
 -- a let's bindings
 unfoldable pub bindings-of : Body → List Binding
@@ -33,13 +33,13 @@ let-loc (BC l bs t) = []
 let-loc (BM l f) = []
 let-loc (BF l w ca c a b) = []
 
--- the indices of the stuck bindings; of the free rounds number, 0
+-- the indices of the stuck bindings, in the sequence in which `toposort` leaves them
 unfoldable pub stuck-answer : ℕ → ℕ → Bytes → Bytes → Result
 stuck-answer c l buffer is = (record { number = 5; place = l; counter = c; rounds = 0; len = length is }, written is buffer)
 
--- the indices in order; of the free rounds number, their count
-unfoldable pub order-answer : ℕ → Bytes → Bytes → Result
-order-answer c buffer is = (record { number = 0; place = 0; counter = c; rounds = length is; len = length is }, written is buffer)
+-- the indices in order, and the turns that placed them
+unfoldable pub order-answer : ℕ → Bytes → ℕ → Bytes → Result
+order-answer c buffer turns is = (record { number = 0; place = 0; counter = c; rounds = turns; len = length is }, written is buffer)
 
 -- an assign that is read: 8 where the buffer is shorter than the binding count; then its order, or 5
 unfoldable pub order-of : ℕ → Bytes → Body → Result
@@ -48,7 +48,7 @@ order-of c buffer a =
       | false ↦ refusal c buffer 8 0
       | true ↦ elim (toposort-assign-bindings (bindings-of a)) [
         | deadlock is ↦ stuck-answer c (loc-number (let-loc a)) buffer is
-        | ordered is ↦ order-answer c buffer is
+        | ordered is ↦ order-answer c buffer (rounds (items (bindings-of a))) is
       ]
     ]
 
@@ -57,19 +57,12 @@ unfoldable pub order-call : ℕ → ℕ → ℕ → Bytes → Bytes → Result
 order-call F work c input buffer =
     elim (open-input assign-of F work c input) [ closed n p ↦ refusal c buffer n p | opened a ↦ order-of c buffer a ]
 
--- What Order may answer: as `order-call` does, but for the rounds of an accepted call, from 1 to the count (0 for none), and for the
--- sequence of the stuck indices.
-pub record OrderAnswers (defined given : Result) : Type 0 where
-  pub number : given .0 .number ≡ defined .0 .number
-  pub place : given .0 .place ≡ defined .0 .place
-  pub counter : given .0 .counter ≡ defined .0 .counter
-  pub len : given .0 .len ≡ defined .0 .len
-  pub rounds : given .0 .rounds ≤ defined .0 .len
-  pub some-rounds : defined .0 .number ≡ 0 → 1 ≤ defined .0 .len → 1 ≤ given .0 .rounds
-  pub no-rounds : defined .0 .number ≢ 0 → given .0 .rounds ≡ 0
-  pub result : defined .0 .number ≢ 5 → given .1 ≡ defined .1
-  pub stuck : List·Permᴰ (take (defined .0 .len) (given .1)) (take (defined .0 .len) (defined .1))
-  pub rest : drop (defined .0 .len) (given .1) ≡ drop (defined .0 .len) (defined .1)
+-- What is true of the rounds, which are free between 1 and the count (0 for none): no more than the indices, at least one where there are
+-- some, and none with a refusal.
+pub record Rounds (r : Result) : Type 0 where
+  pub few : r .0 .rounds ≤ r .0 .len
+  pub some : r .0 .number ≡ 0 → 1 ≤ r .0 .len → 1 ≤ r .0 .rounds
+  pub none : r .0 .number ≢ 0 → r .0 .rounds ≡ 0
 
 -- unfolds with every definition of this file
 unfoldable pub computing-order-call : Unit {0}

@@ -65,7 +65,19 @@ turns bs (suc n) r =
 unfoldable pub toposort : List Item → Outcome
 toposort bs = turns bs (length bs) (start (length bs))
 
+-- the turns that place something, of at most so many
+abbrev pub rounds-from : List Item → ℕ → Row → ℕ
+rounds-from bs zero r = 0
+rounds-from bs (suc n) r =
+    let more : ℕ = suc (rounds-from bs n (turn bs r)) in
+    let go : ℕ = cond (is-empty (picked bs r)) 0 more in
+    cond (ltb (r .placed) (length (r .row))) go 0
+
+-- how many turns place something
+unfoldable pub rounds : List Item → ℕ
+rounds bs = rounds-from bs (length bs) (start (length bs))
+
 -- unfolds with every definition of this file, and of Items.antt
 unfoldable pub computing-toposort : Unit {0}
-unfolding gives needed start ready picked swap toposort
+unfolding gives needed start ready picked swap toposort rounds
 computing-toposort = tt

@@ -1,1 +1,39 @@
-// The order of an assign's bindings. Its definitions and theorems stand in specs/ and proofs/; no function has landed yet.
+// The order of an assign's bindings, by what each needs and provides, and the call Order.
+//
+// `provides` says which bindings provide a name, `needs` what a body needs, `sort` has the exact
+// order over needs, `assign` the order of an assign's bindings, and `call` the call Order.
+pub mod assign;
+pub mod call;
+pub mod needs;
+pub mod provides;
+pub mod sort;
+
+// The most bindings of an assign.
+pub const BINDING_LIMIT: usize = 64;
+
+// More than every place in a record.
+pub const PLACES: usize = 65536;
+
+// The most names that the bodies of one record can mention: each takes four bytes or more.
+pub const NEED_LIMIT: usize = 4096;
+
+// How many entries are listed, and where the record that they were read from ends.
+pub struct Listed {
+    pub count: usize,
+    pub end: usize,
+}
+
+// How many indices of a row are placed, and in how many turns.
+pub struct Sorted {
+    pub placed: usize,
+    pub rounds: usize,
+}
+
+// The order of `count` bindings. With all of them placed the row is the order; at a deadlock what
+// stands in it from `placed` on is stuck.
+pub struct Order {
+    pub row: [u8; BINDING_LIMIT],
+    pub count: usize,
+    pub placed: usize,
+    pub rounds: usize,
+}

@@ -4,27 +4,34 @@ pub mod input;
 pub mod record;
 pub mod sexp;
 
-// The bytes of a location, and of the length of a field that is only copied.
+// The bytes of a location.
 pub const LOC_WIDTH: usize = 4;
 
+// The bytes of the length of a field that is only copied.
 pub const RAW_WIDTH: usize = 2;
 
+// The bytes of the count that stands before a number.
 pub const INTEGER_WIDTH: usize = 1;
 
-// How deep B, H and CF records, SC, and BF nest; the largest count.
+// How deep B, H and CF records nest.
 pub const LEVEL_LIMIT: usize = 32;
 
+// How deep SC nest.
 pub const CONS_LIMIT: usize = 64;
 
+// How deep BF nest.
 pub const LAMBDA_LIMIT: usize = 6;
 
+// The largest count.
 pub const COUNT_LIMIT: u8 = 64;
 
-// F, the longest record, as a caller may choose it, and how many times F work memory holds.
+// The least F, the longest record, that a caller may choose.
 pub const LEAST_LONGEST: usize = 64;
 
+// The largest F.
 pub const MOST_LONGEST: usize = 16384;
 
+// How many times F work memory holds.
 pub const WORK_FACTOR: usize = 256;
 
 // Where a record stands: in no assign's binding body; in one, and in no BM; in a BM.

@@ -1,3 +1,4 @@
 pub mod Counters
+pub mod Given
 pub mod Records
 pub mod Words

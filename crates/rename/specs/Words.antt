@@ -6,8 +6,8 @@ use Rattle.rename.specs.declared.kind.Kind.{Kind}
 use Rattle.rename.specs.declared.kind.Kind.the-variants.{Is, Nothing}
 
 -- the kind that a word names
-unfoldable pub kind-of : Bytes → Kind
-kind-of bs =
+unfoldable pub named-kind : Bytes → Kind
+named-kind bs =
     elim (same bs (ascii "form")) [
       | true ↦ Is Form
       | false ↦ elim (same bs (ascii "helper")) [

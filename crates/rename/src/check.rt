@@ -1,6 +1,8 @@
 // `rename check KIND FILE F`: whether a file holds one record that the calls take.
 use crate::counter;
 use crate::counter::Counter;
+use crate::file;
+use crate::file::MOST_READ;
 use crate::kind;
 use crate::kind::Kind;
 use crate::refusal;
@@ -15,9 +17,6 @@ use records::input::open_input;
 use views::count::count_records;
 ghost use mathlib.Core.Path.{_≡_};
 ghost use Rattle.rename.specs.Records.{wanted-family, RecordsIn};
-
-// How much of a file is read: a file that fills it is over every F, and refused as 3 at 0.
-const MOST_READ: usize = MOST_LONGEST + 1;
 
 // The length of work memory that is enough for every F.
 const WORK: usize = WORK_FACTOR * MOST_LONGEST;
@@ -37,36 +36,20 @@ pub fn run() {
             let n = os::arg(4, &mut digits);
             match counter::parse(&digits[..n]) {
                 Counter::Nothing => usage::print(),
-                Counter::Is(f) => open(wanted, f as usize),
+                Counter::Is(f) => read(wanted, f as usize),
             }
         }
     }
 }
 
-// Opens FILE. A path that its buffer cannot hold is none that can be opened.
-fn open(wanted: Wanted, f: usize) {
-    let mut path = io::buffer();
-    let n = os::arg(3, &mut path);
-    let fd = os::open_read(&path[..n]);
-    if fd < 0 {
-        cannot_read(&path[..n]);
-        return;
-    }
-    read(fd, &path[..n], wanted, f);
-    libc::close(fd);
-}
-
-// Reads an open file and judges its bytes; one more read tells the end from a read that failed.
-fn read(fd: i32, path: &[u8], wanted: Wanted, f: usize) {
+// Reads FILE and judges its bytes.
+fn read(wanted: Wanted, f: usize) {
     let mut input = [0u8; MOST_READ];
-    let n = io::read_full(fd, &mut input);
-    let mut next = [0u8; 1];
-    let rest = libc::read(fd, &mut next);
-    if n < MOST_READ && rest != 0 {
-        cannot_read(path);
-        return;
+    let c = file::read(3, &mut input);
+    let len = c.len;
+    if c.read {
+        judge(&input[..len], wanted, f);
     }
-    judge(&input[..n], wanted, f);
 }
 
 // Prints that the bytes of a file are accepted and how many records they have, or the refusal.
@@ -103,11 +86,4 @@ fn family_of(wanted: Wanted) -> Family
         Wanted::Helper => Family::Helper,
         Wanted::Assign => Family::Body,
     }
-}
-
-// Says that the file cannot be read.
-fn cannot_read(path: &[u8]) {
-    say::text(b"cannot read ");
-    say::text(path);
-    say::text(b"\n");
 }

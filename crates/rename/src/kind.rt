@@ -2,7 +2,7 @@
 use names::bytes::same;
 use records::Wanted;
 ghost use mathlib.Core.Path.{_≡_};
-ghost use Rattle.rename.specs.Words.{kind-of};
+ghost use Rattle.rename.specs.Words.{named-kind};
 
 // A kind that was read, or nothing.
 pub enum Kind {
@@ -12,7 +12,7 @@ pub enum Kind {
 
 // The kind that a word names.
 pub fn parse(word: &[u8]) -> Kind
-    ensures { λ r. ⌜ r ≡ kind-of (now (word .entry)) ⌝ }
+    ensures { λ r. ⌜ r ≡ named-kind (now (word .entry)) ⌝ }
 {
     if same(word, b"form") {
         return Kind::Is(Wanted::Form);

@@ -1,11 +1,15 @@
 // The calls of the rename pass from the command line: the first argument says which.
 mod check;
 mod counter;
+mod file;
 mod kind;
 mod name;
+mod order;
+mod provided;
 mod refusal;
 mod say;
 mod usage;
+mod waits;
 
 // Runs the command that the first argument names.
 fn main() {
@@ -15,6 +19,8 @@ fn main() {
         name::run();
     } else if names::bytes::same(&command[..n], b"check") {
         check::run();
+    } else if names::bytes::same(&command[..n], b"order") {
+        order::run();
     } else {
         usage::print();
     }

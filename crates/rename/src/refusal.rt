@@ -29,6 +29,14 @@ pub fn print_at(number: u32, place: usize) {
     say::text(b"\n");
 }
 
+// The line of a deadlock, with the location of the assign.
+pub fn print_deadlock(loc: u64) {
+    start(5);
+    say::text(b"the bindings of the assign have no order, at location ");
+    say::number(loc);
+    say::text(b"\n");
+}
+
 // The refusal's number.
 fn start(number: u32) {
     say::text(b"refused ");

@@ -5,4 +5,5 @@ use crate::say;
 pub fn print() {
     say::text(b"usage: rename name NAME COUNTER\n");
     say::text(b"       rename check form|helper|assign FILE F\n");
+    say::text(b"       rename order FILE F\n");
 }

@@ -1,7 +1,9 @@
-//! The proved record reader beside a plain Rust one: their speed, and their answers.
+//! The proved record reader beside a plain Rust one, and the proved order beside Chialisp's: their speed, and their answers.
 
 mod agree;
 mod library;
+mod order_speed;
+mod orders;
 mod plain;
 mod speed;
 
@@ -10,7 +12,9 @@ use std::process::ExitCode;
 const HELP: &str = "bench COMMAND ..
 
   speed [--seed S]            bytes per second of the library and of a plain Rust reader on forms of three sizes, and their ratio
-  agree --count N --seed S    N inputs, valid, damaged and random: number and place of both against the oracle's reader";
+  agree --count N --seed S    N inputs, valid, damaged and random: number and place of both against the oracle's reader
+  orders --count N --seed S   N assigns, ordered, deadlocked and refused: the answers of the call Order against the oracle's
+  order-speed                 microseconds that ordering an assign of 10 or 64 bindings takes the library and Chialisp's Rust";
 
 fn main() -> ExitCode {
     let words: Vec<String> = std::env::args().skip(1).collect();
@@ -29,6 +33,8 @@ fn command(words: &[&str]) -> Result<(), String> {
         ["speed"] => speed::speed(1),
         ["speed", "--seed", seed] => speed::speed(number(seed)?),
         ["agree", "--count", count, "--seed", seed] => agree::agree(number(seed)?, number(count)? as usize),
+        ["orders", "--count", count, "--seed", seed] => orders::agree(number(seed)?, number(count)? as usize),
+        ["order-speed"] => order_speed::speed(),
         [] | ["help" | "--help" | "-h"] => {
             println!("{HELP}");
             Ok(())

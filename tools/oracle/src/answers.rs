@@ -2,7 +2,7 @@
 
 use crate::codec;
 use crate::compiler::codegen::toposort_assign_bindings;
-use crate::compiler::comptypes::CompileErr;
+use crate::compiler::comptypes::{Binding, CompileErr};
 use crate::compiler::gensym::{gensym, ARGNAME_CTR};
 use crate::compiler::rename::{rename_args_compileform, rename_args_helperform, rename_children_compileform};
 use crate::compiler::srcloc::Srcloc;
@@ -11,6 +11,7 @@ use crate::ordering::{order, Outcome};
 use crate::reader::{self, Refusal};
 use crate::records::{Bytes, Form, Helper, Let, Record};
 use std::panic::{catch_unwind, AssertUnwindSafe};
+use std::rc::Rc;
 use std::sync::atomic::Ordering;
 
 pub const MAX_COUNTER: u64 = 4294967295;
@@ -220,9 +221,26 @@ pub fn rust_helper(helper: &Helper, from: u64) -> Checked<Renamed<Helper>> {
 
 /// The exact order, or the deadlock.
 pub fn rust_order(assign: &Let) -> Checked<Result<Vec<usize>, Refusal>> {
-    let bindings: Vec<_> = assign.bindings.iter().map(codec::binding_to_rust).collect();
-    let result = run(0, || toposort_assign_bindings(&Srcloc::at(assign.loc), &bindings))?;
+    let trees = Trees::of(assign);
+    let result = run(0, || toposort_assign_bindings(&trees.loc, &trees.bindings))?;
     Ok(result.map(|items| items.iter().map(|item| item.index).collect()))
+}
+
+/// An assign as the Rust has it, made once to be ordered many times.
+pub struct Trees {
+    loc: Srcloc,
+    bindings: Vec<Rc<Binding>>,
+}
+
+impl Trees {
+    pub fn of(assign: &Let) -> Trees {
+        Trees { loc: Srcloc::at(assign.loc), bindings: assign.bindings.iter().map(codec::binding_to_rust).collect() }
+    }
+
+    /// Runs `toposort_assign_bindings`: whether there is an order.
+    pub fn ordered(&self) -> bool {
+        toposort_assign_bindings(&self.loc, &self.bindings).is_ok()
+    }
 }
 
 /// Runs the Rust from a counter. Its one error is the deadlock; a panic is a disagreement.

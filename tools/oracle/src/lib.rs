@@ -11,6 +11,7 @@ mod compiler;
 pub mod generate;
 mod model;
 mod ordering;
+pub mod orders;
 pub mod print;
 pub mod random;
 pub mod reader;

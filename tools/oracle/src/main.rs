@@ -1,9 +1,10 @@
 //! Runs the rename pass of Chialisp's Rust compiler on form records, and makes test vectors of it.
 
-use oracle::answers::{self, Call, Case, Opened, CALLS};
+use oracle::answers::{self, Call, Case, Checked, Opened, CALLS};
 use oracle::generate::Maker;
+use oracle::orders;
 use oracle::reads::{self, Series};
-use oracle::records::Record;
+use oracle::records::{Bytes, Record};
 use oracle::{cases, compare, print, rows, sample, vectors};
 use std::io::{self, BufRead};
 use std::process::ExitCode;
@@ -21,6 +22,8 @@ const HELP: &str = "oracle COMMAND ..
                       N reading cases: at every limit, small records cut and changed, random ones
   store-reads --count N --seed S FILE
                       writes N of them, most of them small, to a file
+  store-orders --count N --seed S [--long] FILE
+                      writes N different cases of the call order to a file, most of them small; or of any length
   rows [--batch N]    reads vector lines and prints an antt file that checks them by computation
   show HEX            a CF, a helper or an assign, readable
   run CALL HEX [COUNTER]
@@ -55,7 +58,11 @@ fn command(words: &[&str]) -> Done {
         ["answer"] => answer_lines(),
         ["compare-model", options @ ..] => compare::compare(number(options, "--count", None)?, number(options, "--seed", None)?),
         ["reads", options @ ..] => print_reads(options),
-        ["store-reads", options @ .., file] => store_reads(options, file),
+        ["store-reads", options @ .., file] => store(file, options, |seed, count| Ok(reads::store(seed, count))),
+        ["store-orders", options @ .., file] => store(file, options, |seed, count| {
+            let series = if options.contains(&"--long") { orders::Series::full(seed) } else { orders::Series::short(seed) };
+            orders::store(series, count)
+        }),
         ["rows", options @ ..] => rows::rows(&input_lines()?, number(options, "--batch", Some(rows::BATCH))? as usize),
         ["show", hex] => show(hex),
         ["run", call, hex] => run(call_named(call)?, &vectors::from_hex(hex)?, 0),
@@ -126,9 +133,10 @@ fn print_reads(options: &[&str]) -> Done {
     Ok(())
 }
 
-fn store_reads(options: &[&str], file: &str) -> Done {
+/// Writes so many cases, as they are stored, to a file.
+fn store(file: &str, options: &[&str], stored: impl Fn(u64, usize) -> Checked<Bytes>) -> Done {
     let count = number(options, "--count", None)? as usize;
-    let bytes = reads::store(number(options, "--seed", None)?, count);
+    let bytes = stored(number(options, "--seed", None)?, count)?;
     std::fs::write(file, &bytes).map_err(|why| format!("cannot write {file}: {why}"))?;
     println!("{count} cases in {} bytes", bytes.len());
     Ok(())

@@ -1,0 +1,44 @@
+-- `ordering::assign::toposort_assign_bindings` meets its contract. Assumes nothing.
+use borrow.Author.Needs.{needs}
+use mathlib.Core.Path.{refl, sym, _∙_}
+use native.Mathlib.Omega.{arith}
+use lib.Seq.{length-take-le}
+use Rattle.ordering.proofs.Bound.{let-bound, bound-of, ordered-in}
+use Rattle.ordering.proofs.assign.toposort_assign_bindings.Statement.{statement}
+use Rattle.ordering.proofs.assign.toposort_assign_bindings.Tie as tie
+
+array-borrow-prefix-bodies : tie.Need-array-borrow-prefix-bodies
+array-borrow-prefix-bodies c = let t = c .before .before .before .before .pre .1 in let-bound (c .before .before .let-view .ensures) (t .6) .1
+
+slice-aggregate-order-bindings-2 : tie.Need-slice-aggregate-order-bindings-2
+slice-aggregate-order-bindings-2 c = sym (length-take-le _ _ (array-borrow-prefix-bodies (c .before)))
+
+array-borrow-prefix-row : tie.Need-array-borrow-prefix-row
+array-borrow-prefix-row c = array-borrow-prefix-bodies (c .before .before .before)
+
+slice-aggregate-order-bindings-5 : tie.Need-slice-aggregate-order-bindings-5
+slice-aggregate-order-bindings-5 c = sym (length-take-le _ _ (array-borrow-prefix-row (c .before)))
+
+order-bindings-requires : tie.Need-order-bindings-requires
+order-bindings-requires c κs =
+    let start = c .before .before .before .before .before .before .before .before in
+    let w = let-bound (c .before .before .before .before .before .before .let-view .ensures) (start .pre .1 .6) in
+    let size = length-take-le _ _ (array-borrow-prefix-row (c .before)) in
+    let bodies = length-take-le _ _ (array-borrow-prefix-row (c .before)) in (
+      (start .pre .0, refl, refl),
+      ((bodies ∙ sym size, omega (arith, size, w .1), omega (arith, size, w .1)), (_, bound-of _ (sym size) (w .0))),
+    )
+
+returns : tie.Need-returns
+returns c = λ k l w h bs b t.
+    let x = let-bound (c .before .before .before .before .before .before .before .before .before .before .before .before .let-view .ensures) t in
+    let size = length-take-le _ _ (array-borrow-prefix-row (c .before .before .before .before .before .before .before)) in
+    let g = c .before .before .before .before .before .order-bindings in
+    let same = g .kept .1 .1 .1 .1 .1 .1 .0 ∙ size in
+    ordered-in _ _ (x .0) same refl (x .1) (g .ensures .0) (g .ensures .1 _ (bound-of _ (sym size) (x .0)))
+
+pub toposort-assign-bindings-spec : {M : Type 1} → statement M
+toposort-assign-bindings-spec =
+    tie.close
+    (tie.spec (λ c κs. search needs) (λ c. search needs) (λ c. search needs) array-borrow-prefix-bodies slice-aggregate-order-bindings-2 (λ c. search needs) (λ c. search needs)
+    array-borrow-prefix-row slice-aggregate-order-bindings-5 order-bindings-requires returns)

@@ -1,0 +1,93 @@
+// The call Order: the exact order of one assign's bindings, or a refusal.
+use crate::Order;
+use crate::assign::toposort_assign_bindings;
+use names::Answer;
+use names::bytes::number;
+use names::bytes::put;
+use names::call::refused;
+use records::LOC_WIDTH;
+use records::Opening;
+use records::Wanted;
+use records::input::open_input;
+use views::bodies::let_view;
+ghost use mathlib.Core.Path.{_≡_};
+ghost use Prim.Native.Nat.{_-_, _≤_};
+ghost use lib.ListN.{length, take, drop};
+ghost use Rattle.names.specs.Names.{Bytes};
+ghost use Rattle.records.specs.Limits.{most-longest};
+ghost use Rattle.records.specs.Records.{Loc, Kind, Body, BL, Bindings};
+ghost use Rattle.ordering.specs.Assign.{Let};
+ghost use Rattle.ordering.specs.Needs.{binding-limit};
+ghost use Rattle.ordering.specs.OrderCall.{order-answer, stuck-answer, order-of, order-call};
+
+// Writes the order.
+fn ordered(o: Order, counter: u64, result: &mut [u8]) -> Answer
+    requires { ⌜ (o .count ≤ binding-limit) × (length (o .row) ≡ binding-limit) × (o .count ≤ length (now result)) ⌝ }
+    ensures { λ r. ⌜ (r, now (result .exit)) ≡ order-answer counter (now (result .entry)) (o .rounds) (take (o .count) (o .row)) ⌝ }
+{
+    let row = o.row;
+    let len = o.count;
+    put(result, 0, &row[..len]);
+    Answer {
+        number: 0,
+        place: 0,
+        counter,
+        rounds: o.rounds as u64,
+        len,
+    }
+}
+
+// Writes the stuck bindings.
+fn stuck(o: Order, place: u64, counter: u64, result: &mut [u8]) -> Answer
+    requires { ⌜ (o .count ≤ binding-limit) × (length (o .row) ≡ binding-limit) × (o .placed ≤ o .count) × (o .count ≤ length (now result)) ⌝ }
+    ensures { λ r. ⌜ (r, now (result .exit)) ≡ stuck-answer counter place (now (result .entry)) (take (o .count - o .placed) (drop (o .placed) (o .row))) ⌝ }
+{
+    let row = o.row;
+    let from = o.placed;
+    let end = o.count;
+    put(result, 0, &row[from..end]);
+    Answer {
+        number: 5,
+        place,
+        counter,
+        rounds: 0,
+        len: end - from,
+    }
+}
+
+// The answer for an assign that is read.
+fn order_of(counter: u64, s: &[u8], result: &mut [u8]) -> Answer
+    requires { ⌜ length (now s) ≤ most-longest ⌝ }
+    requires { ⌜ ((k : Kind) × (l : Loc) × (w : Bytes) × (h : Bytes) × (bs : Bindings) × (b : Body) × Let (now s) k l w h bs b) ⌝ }
+    ensures { λ r. ⌜ ((k : Kind) (l : Loc) (w h : Bytes) (bs : Bindings) (b : Body) → Let (now (s .entry)) k l w h bs b → (r, now (result .exit)) ≡ order-of counter (now (result .entry)) (BL k l w h bs b)) ⌝ }
+{
+    let v = let_view(s);
+    if result.len() < v.count as usize {
+        return refused(8, 0, counter);
+    }
+    let o = toposort_assign_bindings(s);
+    if o.placed < o.count {
+        let loc = v.loc;
+        stuck(o, number(s, loc, LOC_WIDTH) as u64, counter, result)
+    } else {
+        ordered(o, counter, result)
+    }
+}
+
+// Writes the order of an assign's bindings at the front of the result buffer, or, at a deadlock,
+// the stuck ones.
+pub fn order_call(
+    f: usize,
+    work: &mut [u8],
+    counter: u64,
+    input: &[u8],
+    result: &mut [u8],
+) -> Answer
+    ensures { λ r. ⌜ (r, now (result .exit)) ≡ order-call f (length (now (work .entry))) counter (now (input .entry)) (now (result .entry)) ⌝ }
+{
+    let opening = open_input(Wanted::Assign, f, work.len(), counter, input);
+    match opening {
+        Opening::Refused(n, place) => refused(n, place as u64, counter),
+        Opening::Accepted => order_of(counter, input, result),
+    }
+}

@@ -1,0 +1,89 @@
+// The exact order of bindings over their needs (`toposort`). A need is the bindings that provide one
+// needed name, as bits; those of binding i stand in `needs` from `starts[i]` up to `starts[i + 1]`.
+use crate::Sorted;
+ghost use mathlib.Core.Path.{_≡_};
+ghost use mathlib.Core.List.{List};
+ghost use Prim.Native.Nat.{ℕ, _≤_, _<_};
+ghost use lib.ListN.{length, getD, take};
+ghost use Rattle.ordering.specs.Items.{Item};
+ghost use Rattle.ordering.specs.Toposort.{indices-from, turn, toposort, rounds};
+ghost use Rattle.ordering.specs.Needs.{binding-limit, bits, marks, NeedsAt, Starts, Given, outcome-of};
+
+// Orders the indices of all bindings in `row`.
+pub fn toposort(needs: &[u64], starts: &[usize], row: &mut [u8]) -> Sorted
+    requires { ⌜ Starts (length (now row)) (now needs) (now starts) ⌝ }
+    ensures { λ r. ⌜ (r .placed ≤ length (now (row .exit))) × (r .rounds ≤ r .placed) ⌝ }
+    ensures { λ _. ⌜ ((k : ℕ) → k < length (now (row .exit)) → getD (now (row .exit)) k 0 < length (now (row .exit))) ⌝ }
+    ensures { λ r. ⌜ ((bs : List Item) → length bs ≡ length (now (row .entry)) → NeedsAt bs (now (needs .entry)) (now (starts .entry)) → (toposort bs ≡ outcome-of (now (row .exit)) (r .placed)) × (r .rounds ≡ rounds bs)) ⌝ }
+{
+    rising(row);
+    let mut placed = 0;
+    let mut rounds = 0;
+    while placed < row.len() {
+        let done = placed_bits(row, placed);
+        let next = turn(needs, starts, row, placed, done);
+        if next == placed {
+            return Sorted { placed, rounds };
+        }
+        placed = next;
+        rounds += 1;
+    }
+    Sorted { placed, rounds }
+}
+
+// All indices, rising.
+fn rising(row: &mut [u8])
+    requires { ⌜ length (now row) ≤ binding-limit ⌝ }
+    ensures { λ _. ⌜ now (row .exit) ≡ indices-from 0 (length (now (row .entry))) ⌝ }
+{
+    let mut i = 0;
+    while i < row.len() {
+        row[i] = i as u8;
+        i += 1;
+    }
+}
+
+// The bits of the indices of a row's first `placed`.
+fn placed_bits(row: &[u8], placed: usize) -> u64
+    requires { ⌜ (length (now row) ≤ binding-limit) × (placed ≤ length (now row)) ⌝ }
+    requires { ⌜ ((k : ℕ) → k < length (now row) → getD (now row) k 0 < length (now row)) ⌝ }
+    ensures { λ r. ⌜ r ≡ bits (marks (length (now (row .entry))) (take placed (now (row .entry)))) ⌝ }
+{
+    let mut bits = 0;
+    let mut k = 0;
+    while k < placed {
+        bits |= 1u64 << row[k];
+        k += 1;
+    }
+    bits
+}
+
+// A turn: each index from `placed` on whose needs are all met by `done` changes places with the
+// leftmost one not yet placed, and is then placed.
+fn turn(needs: &[u64], starts: &[usize], row: &mut [u8], placed: usize, done: u64) -> usize
+    requires { ⌜ Starts (length (now row)) (now needs) (now starts) × (placed ≤ length (now row)) ⌝ }
+    requires { ⌜ ((k : ℕ) → k < length (now row) → getD (now row) k 0 < length (now row)) ⌝ }
+    ensures { λ r. ⌜ (placed ≤ r) × (r ≤ length (now (row .exit))) ⌝ }
+    ensures { λ _. ⌜ ((k : ℕ) → k < length (now (row .exit)) → getD (now (row .exit)) k 0 < length (now (row .exit))) ⌝ }
+    ensures { λ r. ⌜ ((bs : List Item) → Given bs (now (needs .entry)) (now (starts .entry)) (now (row .entry)) placed done → turn bs (record { row = now (row .entry); placed = placed }) ≡ record { row = now (row .exit); placed = r }) ⌝ }
+{
+    let mut left = placed;
+    let mut p = placed;
+    'positions: while p < row.len() {
+        let i = row[p];
+        let mut k = starts[i as usize];
+        let end = starts[i as usize + 1];
+        while k < end {
+            if needs[k] & done == 0 {
+                p += 1;
+                continue 'positions;
+            }
+            k += 1;
+        }
+        row[p] = row[left];
+        row[left] = i;
+        left += 1;
+        p += 1;
+    }
+    left
+}

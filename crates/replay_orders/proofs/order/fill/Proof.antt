@@ -1,0 +1,26 @@
+-- `replay_orders::order::fill` is safe and ends. The measure is how many bytes are left; the buffer keeps its length.
+-- Assumes nothing.
+use mathlib.Core.Path.{_≡_, refl}
+use native.Mathlib.Omega.{arith}
+use Prim.Native.Nat.{_-_}
+use lib.ListN.{length, length-set}
+use Rattle.replay_orders.proofs.order.fill.Statement.{statement}
+use Rattle.replay_orders.proofs.order.fill.Tie as tie
+
+abbrev Inv-loop : tie.InvT-loop
+Inv-loop result₀ i₀ result i = length result ≡ length result₀
+
+abbrev μ-loop : tie.MeasureT-loop
+μ-loop result₀ i₀ result i = length result₀ - i
+
+pub fill-spec : {M : Type 1} → statement M
+fill-spec =
+    tie.close
+    (tie.spec Inv-loop μ-loop
+    (λ c. refl)
+    (λ c. omega arith)
+    (λ c. omega arith)
+    (λ c. omega arith)
+    (λ c. simp length-set (c .before .loop .inv))
+    (λ c. omega arith)
+    (λ c. tt))

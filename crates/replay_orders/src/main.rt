@@ -1,0 +1,140 @@
+// Replays stored cases of the call Order: standard input has the cases, each with the answer that it
+// must get.
+//
+// A case is F, the counter, the length of the result buffer, the number, the place, how many bytes
+// are written and the length of the input (2, 8, 1, 1, 4, 1 and 2 bytes, big-endian); then the bytes
+// written, and then the input.
+mod order;
+
+use libc::STDIN_FILENO;
+use libc::STDOUT_FILENO;
+use names::bytes::number;
+use order::Case;
+use order::agrees;
+use ordering::BINDING_LIMIT;
+use records::MOST_LONGEST;
+use records::WORK_FACTOR;
+
+// The bytes of a case before those written and the input.
+const HEAD: usize = 19;
+
+// The length of work memory that is enough for every F.
+const WORK: usize = WORK_FACTOR * MOST_LONGEST;
+
+// The most bytes that a length of one byte can announce.
+const MOST_RESULT: usize = 255;
+
+// What came of one case.
+enum Outcome {
+    Agrees,
+    Differs,
+    CutOff,
+    Ended,
+}
+
+// Whether the bytes that fill a buffer can be read.
+fn reads(buf: &mut [u8]) -> bool {
+    io::read_full(STDIN_FILENO, buf) == buf.len()
+}
+
+// What a case gives and must get.
+fn case_of(head: &[u8; HEAD]) -> Case {
+    Case {
+        f: number(head, 0, 2),
+        counter: number(head, 2, 8) as u64,
+        number: number(head, 11, 1) as u32,
+        place: number(head, 12, 4) as u64,
+    }
+}
+
+// Has the call answer a case, with a result buffer as long as the case says.
+fn judged(head: &[u8; HEAD], work: &mut [u8], wanted: &[u8], input: &[u8]) -> Outcome {
+    let mut result = [0u8; MOST_RESULT];
+    let n = number(head, 10, 1);
+    if agrees(case_of(head), work, input, wanted, &mut result[..n]) {
+        Outcome::Agrees
+    } else {
+        Outcome::Differs
+    }
+}
+
+// Reads what follows the head of a case, and has the call answer it.
+fn rest(head: &[u8; HEAD], work: &mut [u8], wanted: &mut [u8], buf: &mut [u8]) -> Outcome {
+    let count = number(head, 16, 1);
+    let len = number(head, 17, 2);
+    if count > wanted.len() {
+        return Outcome::CutOff;
+    }
+    if len > buf.len() {
+        return Outcome::CutOff;
+    }
+    if !reads(&mut wanted[..count]) {
+        return Outcome::CutOff;
+    }
+    if !reads(&mut buf[..len]) {
+        return Outcome::CutOff;
+    }
+    judged(head, work, &wanted[..count], &buf[..len])
+}
+
+// Reads the next case and has the call answer it.
+fn next(work: &mut [u8], buf: &mut [u8]) -> Outcome {
+    let mut head = [0u8; HEAD];
+    let got = io::read_full(STDIN_FILENO, &mut head);
+    if got == 0 {
+        return Outcome::Ended;
+    }
+    if got < HEAD {
+        return Outcome::CutOff;
+    }
+    let mut wanted = [0u8; BINDING_LIMIT];
+    rest(&head, work, &mut wanted, buf)
+}
+
+// Says of the case after `done` others what is wrong with it.
+fn fault(done: u64, what: &[u8]) {
+    io::write_all(STDOUT_FILENO, b"after ");
+    io::print_decimal(STDOUT_FILENO, done);
+    io::write_all(STDOUT_FILENO, b" order cases that agree, the next ");
+    io::write_all(STDOUT_FILENO, what);
+}
+
+fn all_agree(done: u64) {
+    io::print_decimal(STDOUT_FILENO, done);
+    io::write_all(STDOUT_FILENO, b" order cases agree\n");
+}
+
+// Replays the case after `done` others, and answers whether to go on.
+fn goes_on(work: &mut [u8], buf: &mut [u8], done: u64) -> bool {
+    let outcome = next(work, buf);
+    match outcome {
+        Outcome::Agrees => {
+            return true;
+        }
+        Outcome::Ended => all_agree(done),
+        Outcome::Differs => fault(done, b"does not\n"),
+        Outcome::CutOff => fault(done, b"is cut off\n"),
+    }
+    false
+}
+
+// A proved loop has to end, and nothing says that the input does. So the loop counts, up to a
+// number that no run reaches.
+fn replay(work: &mut [u8], buf: &mut [u8]) {
+    let mut done = 0;
+    while done < u64::MAX && goes_on(work, buf, done) {
+        done += 1;
+    }
+}
+
+// The buffer is as long as the longest input that a length of two bytes can announce.
+fn run(work: &mut [u8; WORK]) {
+    let mut buf = io::large_buffer();
+    replay(work, &mut buf);
+}
+
+// Work memory is lent as an array, so that no proof has to count its bytes.
+fn main() {
+    let mut work = [0u8; WORK];
+    run(&mut work);
+}

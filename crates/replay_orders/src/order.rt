@@ -1,0 +1,98 @@
+// The one place that knows the call Order.
+use names::Answer;
+use names::bytes::same;
+use ordering::call::order_call;
+
+// What the result buffer is filled with before the call.
+const FILL: u8 = 7;
+
+// What a case gives the call beside its input, and the number and place that it must get.
+pub struct Case {
+    pub f: usize,
+    pub counter: u64,
+    pub number: u32,
+    pub place: u64,
+}
+
+fn fill(result: &mut [u8]) {
+    let mut i = 0;
+    while i < result.len() {
+        result[i] = FILL;
+        i += 1;
+    }
+}
+
+// Whether no byte differs from what the buffer was filled with.
+fn untouched(rest: &[u8]) -> bool {
+    let mut i = 0;
+    while i < rest.len() {
+        if rest[i] != FILL {
+            return false;
+        }
+        i += 1;
+    }
+    true
+}
+
+// Whether a byte stands in a list.
+fn holds(list: &[u8], byte: u8) -> bool {
+    let mut i = 0;
+    while i < list.len() {
+        if list[i] == byte {
+            return true;
+        }
+        i += 1;
+    }
+    false
+}
+
+// Whether each byte of one list stands in another.
+fn all_held(list: &[u8], bytes: &[u8]) -> bool {
+    let mut i = 0;
+    while i < bytes.len() {
+        if !holds(list, bytes[i]) {
+            return false;
+        }
+        i += 1;
+    }
+    true
+}
+
+// Whether the rounds are among those that are free: for an order of some bindings from 1 to their
+// number, else 0.
+fn free_rounds(a: Answer) -> bool {
+    if a.number != 0 {
+        return a.rounds == 0;
+    }
+    if a.len == 0 {
+        return a.rounds == 0;
+    }
+    a.rounds >= 1 && a.rounds <= a.len as u64
+}
+
+// Whether number, place and counter are those of the case.
+fn same_head(c: Case, a: Answer) -> bool {
+    a.number == c.number && a.place == c.place && a.counter == c.counter
+}
+
+// Whether the bytes written are the wanted ones: of a deadlock in any sequence.
+fn same_bytes(number: u32, got: &[u8], wanted: &[u8]) -> bool {
+    if number == 5 {
+        return got.len() == wanted.len() && all_held(got, wanted);
+    }
+    same(got, wanted)
+}
+
+// Whether the call answers a case as it must.
+pub fn agrees(c: Case, work: &mut [u8], input: &[u8], wanted: &[u8], result: &mut [u8]) -> bool {
+    fill(result);
+    let a = order_call(c.f, work, c.counter, input, result);
+    let len = a.len;
+    if len > result.len() {
+        return false;
+    }
+    if !same_head(c, a) {
+        return false;
+    }
+    free_rounds(a) && untouched(&result[len..]) && same_bytes(a.number, &result[..len], wanted)
+}
