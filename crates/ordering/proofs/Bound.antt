@@ -13,7 +13,7 @@ use Rattle.names.proofs.Parts.{at-part, at-from-part}
 use Rattle.names.proofs.Places.{at-left, at-right}
 use Rattle.names.proofs.Segments.{filled-then}
 use Rattle.records.specs.Limits.{level-limit, lambda-limit, most-longest}
-use Rattle.records.specs.Records.{Loc, loc-width, record-bytes, Pattern, pattern-field, Name, Body, BV, SN, body-bytes, Kind, Binding, BB, binding-bytes, Bindings, []ᵍ, _∷ᵍ_, bindings-bytes, bindings-count, list-of}
+use Rattle.records.specs.Records.{Loc, loc-width, record-bytes, Pattern, pattern-field, Body, body-bytes, Kind, Binding, BB, binding-bytes, Bindings, []ᵍ, _∷ᵍ_, bindings-bytes, bindings-count, list-of}
 use Rattle.records.specs.Depth.{depth, binding-depth, bindings-depth}
 use Rattle.records.specs.Valid.{ValidBody, BodyFields, BindingFields, BindingsFields, lambda-depth, binding-lambda-depth, bindings-lambda-depth}
 use Rattle.records.specs.declared.Family.the-variants.{Body as a-body}
@@ -22,7 +22,7 @@ use Rattle.views.specs.Views.{Stands, PastHead, SeesLet}
 use Rattle.views.specs.declared.LetView.{LetView}
 use Rattle.views.proofs.Views.{opened, first-of, rest-of, step}
 use Rattle.ordering.specs.declared.Listed.{Listed}
-use Rattle.ordering.specs.Assign.{need-limit, body-of, body-at, all-needs, Bound, BindingNames, FindsNames, Collectable, Let, Ordered}
+use Rattle.ordering.specs.Assign.{nothing, need-limit, body-of, body-at, all-needs, Bound, BindingNames, FindsNames, Collectable, Let, Ordered}
 use Rattle.ordering.specs.Provisions.{Provisions, Added, ListsNames}
 use Rattle.ordering.specs.Listing.{all-words}
 use Rattle.ordering.specs.Needs.{binding-limit, Starts, outcome-of}
@@ -98,9 +98,6 @@ pub record Found (s : Bytes) (given bodies : List ℕ) (at n j : ℕ) (bs : List
   pub provisions : Provisions s (take n given) (take j bs)
   pub rest : At s at (joined binding-bytes (drop j bs))
   pub there : (k : ℕ) → k < j → At s (getD bodies k 0) (body-bytes (body-at bs k))
-
-abbrev nothing : Binding
-nothing = BB [] [] (Name []) (BV (SN []))
 
 each-at : {A : Type 0} (P : A → Type 0) (xs : List A) (j : ℕ) (d : A) → Each P xs → j < length xs → P (getD xs j d)
 unfolding Each

@@ -11,11 +11,11 @@ use Rattle.names.specs.Segments.{At}
 use Rattle.names.proofs.Frames.{at-below, filled-at}
 use Rattle.names.proofs.Parts.{at-part}
 use Rattle.names.proofs.Places.{at-whole, at-place, at-left, at-right, at-join}
-use Rattle.records.specs.Records.{Name, BV, SN, Binding, BB}
+use Rattle.records.specs.Records.{Binding, BB}
 use Rattle.records.specs.declared.Family.the-variants.{Body as a-body}
 use Rattle.views.specs.Parts.{family-part}
 use Rattle.ordering.specs.declared.Listed.{Listed}
-use Rattle.ordering.specs.Assign.{body-of, body-at, BodiesAt, all-needs}
+use Rattle.ordering.specs.Assign.{nothing, body-of, body-at, BodiesAt, all-needs}
 use Rattle.ordering.specs.Items.{Item, item-at, any, keep, gives, needed}
 use Rattle.ordering.specs.Listing.{Lists, all-words}
 use Rattle.ordering.specs.Provisions.{Entries, Provisions, Given, listed-bindings, places, Added}
@@ -32,9 +32,6 @@ all-append : (bs xs ys : List Binding) → all-needs bs (xs ++ ys) ≡ all-needs
 unfolding all-needs
 all-append bs xs ys =
     ap (needs-of (items bs)) (words-append (λ b. words (body-of b)) xs ys) ∙ needs-append (items bs) (all-words (λ b. words (body-of b)) xs) (all-words (λ b. words (body-of b)) ys)
-
-abbrev nothing : Binding
-nothing = BB [] [] (Name []) (BV (SN []))
 
 -- those of the binding with index j
 abbrev own-needs : List Binding → ℕ → List ℕ

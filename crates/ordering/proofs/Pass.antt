@@ -10,7 +10,7 @@ use mathlib.Core.List.{List}
 use lib.ListN.{length, getD, set, take, length-set}
 use lib.Seq.{getD-set-same, getD-set-other, take-set-le}
 use Rattle.ordering.specs.Items.{Item}
-use Rattle.ordering.specs.Needs.{Given}
+use Rattle.ordering.specs.Needs.{TurnStart}
 use Rattle.ordering.specs.Toposort.{ready, turn}
 use Rattle.ordering.proofs.Loop.{from, pass-begins, pass-ends, pass-stays, pass-places}
 
@@ -31,7 +31,7 @@ module _ (needs starts row₀ : List ℕ) (placed done : ℕ) where
     pub end : p ≤ length row
     pub below : (k : ℕ) → k < length row → getD row k 0 < length row
     pub first : take placed row ≡ take placed row₀
-    pub result : (bs : List Item) → Given bs needs starts row₀ placed done → turn bs (record { row = row₀; placed = placed }) ≡ from bs placed row left p
+    pub result : (bs : List Item) → TurnStart bs needs starts row₀ placed done → turn bs (record { row = row₀; placed = placed }) ≡ from bs placed row left p
 
   pub begins : placed ≤ length row₀ → ((k : ℕ) → k < length row₀ → getD row₀ k 0 < length row₀) → Passed row₀ placed placed
   begins h below = record {
@@ -45,15 +45,15 @@ module _ (needs starts row₀ : List ℕ) (placed done : ℕ) where
   }
 
   module _ {row : List ℕ} {left p : ℕ} (w : Passed row left p) where
-    given-now : (bs : List Item) → Given bs needs starts row₀ placed done → Given bs needs starts row placed done
+    given-now : (bs : List Item) → TurnStart bs needs starts row₀ placed done → TurnStart bs needs starts row placed done
     given-now bs g = record { size = g .size ∙ sym (w .size); at = g .at; marked = rw (w .size, w .first) (g .marked) }
 
-    pub ends : length row ≤ p → (bs : List Item) → Given bs needs starts row₀ placed done
+    pub ends : length row ≤ p → (bs : List Item) → TurnStart bs needs starts row₀ placed done
         → turn bs (record { row = row₀; placed = placed }) ≡ record { row = row; placed = left }
     ends h bs g = w .result bs g ∙ pass-ends bs placed row left p h
 
     module _ (lt : p < length row) where
-      pub stays : ((bs : List Item) → Given bs needs starts row placed done → ready bs (take placed row) (getD row p 0) ≡ false) → Passed row left (p + 1)
+      pub stays : ((bs : List Item) → TurnStart bs needs starts row placed done → ready bs (take placed row) (getD row p 0) ≡ false) → Passed row left (p + 1)
       stays h = record {
         size = w .size;
         low = w .low;
@@ -64,7 +64,7 @@ module _ (needs starts row₀ : List ℕ) (placed done : ℕ) where
         result = λ bs g. w .result bs g ∙ pass-stays bs placed row left p lt (h bs (given-now bs g));
       }
 
-      pub places : ((bs : List Item) → Given bs needs starts row placed done → ready bs (take placed row) (getD row p 0) ≡ true)
+      pub places : ((bs : List Item) → TurnStart bs needs starts row placed done → ready bs (take placed row) (getD row p 0) ≡ true)
           → Passed (set (set row p (getD row left 0)) left (getD row p 0)) (left + 1) (p + 1)
       places h = record {
         size = simp length-set (w .size);

@@ -12,7 +12,7 @@ use lib.ListN.{length, getD, take, drop, drop-of-length-le, length-map}
 use lib.Seq.{drop-cons, getD-drop, getD-take}
 use Rattle.names.specs.Names.{Bytes}
 use Rattle.ordering.specs.Items.{Item, item-at, any, all, gives, needed}
-use Rattle.ordering.specs.Needs.{bits, marks, providers, Given}
+use Rattle.ordering.specs.Needs.{bits, marks, providers, TurnStart}
 use Rattle.ordering.specs.Toposort.{ready}
 use Rattle.ordering.proofs.Bits.{none-gives, some-gives}
 
@@ -29,7 +29,7 @@ pub none-seen : (bs : List Item) (done : List ℕ) (i : ℕ) → ready bs done i
 unfolding ready met-from
 none-seen bs done i = refl
 
-module _ {bs : List Item} {needs starts row : List ℕ} {placed done : ℕ} (g : Given bs needs starts row placed done) (i k : ℕ) (lt : i < length bs) (from : getD starts i 0 ≤ k) where
+module _ {bs : List Item} {needs starts row : List ℕ} {placed done : ℕ} (g : TurnStart bs needs starts row placed done) (i k : ℕ) (lt : i < length bs) (from : getD starts i 0 ≤ k) where
   abbrev passed : ℕ
   passed = k - getD starts i 0
 

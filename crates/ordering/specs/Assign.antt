@@ -26,9 +26,13 @@ need-limit = 4096
 unfoldable pub body-of : Binding → Body
 body-of (BB l nl p b) = b
 
+-- what `getD` gives for an index past the last binding
+abbrev pub nothing : Binding
+nothing = BB [] [] (Name []) (BV (SN []))
+
 -- the body of the binding with index k
 abbrev pub body-at : List Binding → ℕ → Body
-body-at bs k = body-of (getD bs k (BB [] [] (Name []) (BV (SN []))))
+body-at bs k = body-of (getD bs k nothing)
 
 -- bindings stand one after the other in s
 pub record Bound (s : Bytes) (at n : ℕ) (bs : List Binding) : Type 0 where

@@ -9,13 +9,14 @@ use lib.Dec.{ltb}
 use lib.ListN.{length, getD, set, take, drop, replicate}
 use Rattle.names.specs.Names.{Bytes}
 use Rattle.names.specs.Segments.{At}
+use Rattle.records.specs.Limits.{count-limit}
 use Rattle.ordering.specs.Items.{Item, any, keep, gives, needed}
 use Rattle.ordering.specs.Lawful.{_is-in_, OfSome, Full, Stuck}
 use Rattle.ordering.specs.Toposort.{Outcome, ordered, deadlock}
 
 -- the most bindings of an assign
 abbrev pub binding-limit : ℕ
-binding-limit = 64
+binding-limit = count-limit
 
 -- flags as a number, the first of them its lowest bit
 unfoldable pub bits : List Bool → ℕ
@@ -46,8 +47,8 @@ pub record Starts (n : ℕ) (needs starts : List ℕ) : Type 0 where
   pub many : n < length starts
   pub within : (i : ℕ) → i ≤ n → getD starts i 0 ≤ length needs
 
--- what a turn is given: the needs of the bindings, a row of all of them, and those that are placed as bits
-pub record Given (bs : List Item) (needs starts row : List ℕ) (placed done : ℕ) : Type 0 where
+-- what a turn starts from: the needs of the bindings, a row of all of them, and those that are placed as bits
+pub record TurnStart (bs : List Item) (needs starts row : List ℕ) (placed done : ℕ) : Type 0 where
   pub size : length bs ≡ length row
   pub at : NeedsAt bs needs starts
   pub marked : done ≡ bits (marks (length row) (take placed row))

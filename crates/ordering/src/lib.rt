@@ -14,7 +14,8 @@ pub const BINDING_LIMIT: usize = 64;
 // More than every place in a record.
 pub const PLACES: usize = 65536;
 
-// The most names that the bodies of one record can mention: each takes four bytes or more.
+// The most names that the patterns, and that the bodies, of one record can hold: each takes four
+// bytes or more.
 pub const NEED_LIMIT: usize = 4096;
 
 // How many entries are listed, and where the record that they were read from ends.

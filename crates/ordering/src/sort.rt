@@ -7,7 +7,7 @@ ghost use Prim.Native.Nat.{ℕ, _≤_, _<_};
 ghost use lib.ListN.{length, getD, take};
 ghost use Rattle.ordering.specs.Items.{Item};
 ghost use Rattle.ordering.specs.Toposort.{indices-from, turn, toposort, rounds};
-ghost use Rattle.ordering.specs.Needs.{binding-limit, bits, marks, NeedsAt, Starts, Given, outcome-of};
+ghost use Rattle.ordering.specs.Needs.{binding-limit, bits, marks, NeedsAt, Starts, TurnStart, outcome-of};
 
 // Orders the indices of all bindings in `row`.
 pub fn toposort(needs: &[u64], starts: &[usize], row: &mut [u8]) -> Sorted
@@ -65,7 +65,7 @@ fn turn(needs: &[u64], starts: &[usize], row: &mut [u8], placed: usize, done: u6
     requires { ⌜ ((k : ℕ) → k < length (now row) → getD (now row) k 0 < length (now row)) ⌝ }
     ensures { λ r. ⌜ (placed ≤ r) × (r ≤ length (now (row .exit))) ⌝ }
     ensures { λ _. ⌜ ((k : ℕ) → k < length (now (row .exit)) → getD (now (row .exit)) k 0 < length (now (row .exit))) ⌝ }
-    ensures { λ r. ⌜ ((bs : List Item) → Given bs (now (needs .entry)) (now (starts .entry)) (now (row .entry)) placed done → turn bs (record { row = now (row .entry); placed = placed }) ≡ record { row = now (row .exit); placed = r }) ⌝ }
+    ensures { λ r. ⌜ ((bs : List Item) → TurnStart bs (now (needs .entry)) (now (starts .entry)) (now (row .entry)) placed done → turn bs (record { row = now (row .entry); placed = placed }) ≡ record { row = now (row .exit); placed = r }) ⌝ }
 {
     let mut left = placed;
     let mut p = placed;

@@ -7,7 +7,7 @@ use native.Mathlib.Omega.{arith}
 use Prim.Native.Nat.{_+_, _-_, _≤_, _<_}
 use lib.ListN.{length, getD, take, length-set}
 use Rattle.ordering.specs.Items.{Item}
-use Rattle.ordering.specs.Needs.{Given}
+use Rattle.ordering.specs.Needs.{TurnStart}
 use Rattle.ordering.specs.Toposort.{ready}
 use Rattle.ordering.proofs.Pass.{Passed, begins, stays, places, ends}
 use Rattle.ordering.proofs.Search.{met-from, none-seen, not-met, one-met, all-met}
@@ -17,7 +17,7 @@ use Rattle.ordering.proofs.sort.turn.Tie as tie
 abbrev Inv-loop : tie.InvT-loop
 Inv-loop needs starts row placed done left p₀ i k₀ end p k =
     (p ≡ p₀) × (i < length row) × (getD starts i 0 ≤ k) × (end ≤ length needs)
-    × ((bs : List Item) → Given bs needs starts row placed done → ready bs (take placed row) i ≡ met-from bs (take placed row) i (k - getD starts i 0))
+    × ((bs : List Item) → TurnStart bs needs starts row placed done → ready bs (take placed row) i ≡ met-from bs (take placed row) i (k - getD starts i 0))
 
 abbrev μ-loop : tie.MeasureT-loop
 μ-loop needs starts row placed done left p₀ i k₀ end p k = length needs - k
