@@ -14,6 +14,10 @@ const WHOLE: &[(&str, &str, &[&str])] = &[
         "src/compiler/rename.rs",
         "rename.rs",
         &[
+            "fn invent_new_names_sexp",
+            "fn rename_in_cons",
+            "fn rename_in_qq",
+            "fn rename_in_bodyform",
             "fn rename_assign_bindings",
             "fn rename_args_helperform",
             "fn rename_children_compileform",

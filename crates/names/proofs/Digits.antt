@@ -56,7 +56,7 @@ decimal-length-one n lt = ap length (decimal-one n lt)
 pub decimal-length-more : (n : ℕ) → 10 ≤ n → length (decimal n) ≡ length (decimal (n / 10)) + 1
 decimal-length-more n le = ap length (decimal-more n le) ∙ length-append (decimal (n / 10)) ((48 + n % 10) ∷ [])
 
-decimal-length-le : (k n : ℕ) → n < 10 ^ suc k → length (decimal n) ≤ suc k
+pub decimal-length-le : (k n : ℕ) → n < 10 ^ suc k → length (decimal n) ≤ suc k
 decimal-length-le zero n lt = omega (arith, decimal-length-one n lt)
 decimal-length-le (suc k) n lt =
     ⊎-elim

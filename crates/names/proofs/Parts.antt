@@ -3,7 +3,7 @@ use mathlib.Core.Path.{_≡_, sym, ap, _∙_}
 use mathlib.Core.List.{_++_}
 use native.Mathlib.Nat.{add-assoc}
 use native.Mathlib.Omega.{arith}
-use Prim.Native.Nat.{ℕ, _+_, _≤_}
+use Prim.Native.Nat.{ℕ, _+_, _-_, _≤_}
 use lib.ListN.{length, take, drop, length-append, length-drop, take-append-drop}
 use lib.Seq.{drop-append-add, drop-append-le, drop-drop, length-take-le, take-add, take-append-add, take-append-le, take-take}
 use Rattle.names.specs.Names.{Bytes}
@@ -19,6 +19,10 @@ back xs a k ys = take a xs ++ (ys ++ drop k (drop a xs))
 -- segments of the part are segments of the whole
 pub at-part : {xs : Bytes} {s p : ℕ} {bs : Bytes} (a k : ℕ) → At xs s bs → s ≡ a + p → p + length bs ≤ k → At (part xs a k) p bs
 at-part {p = p} a k h e le = at-into-take k le (at-into-drop a (at-place (a + p) e h))
+
+-- what stands at a place stands at the start of the part from there on
+pub into : {xs : Bytes} {p : ℕ} {bs : Bytes} → At xs p bs → At (part xs p (length xs - p)) 0 bs
+into {xs} {p} h = at-part p (length xs - p) h (omega arith) (omega (arith, h .fits))
 
 pub at-from-part : {xs : Bytes} {p : ℕ} {bs : Bytes} (a k : ℕ) → a ≤ length xs → At (part xs a k) p bs → At xs (a + p) bs
 at-from-part a k le h = at-from-drop a le (at-from-take k h)

@@ -1,17 +1,13 @@
 -- S records as their view shows them: whether one is true, and the names listed of one. Assumes nothing.
-use mathlib.Core.Bool.{Bool, true, false, not, _&&_}
+use mathlib.Core.Bool.{Bool, true, false, not}
 use mathlib.Core.List.{List, [], _∷_}
 use mathlib.Core.Path.{_≡_, refl, sym, ap, _∙_}
-use Prim.Native.Nat.{ℕ, _+_, _-_, _≤_, _<_}
-use native.Mathlib.Numerals.{add-one}
+use Prim.Native.Nat.{ℕ, _+_, _-_, _≤_}
 use native.Mathlib.Omega.{arith}
-use borrow.Author.Tests.{eq-eqb, ne-eqb}
-use lib.Dec.{eqb}
-use lib.ListN.{length, drop, getD, drop-of-length-le}
-use lib.Seq.{drop-cons}
+use lib.ListN.{length}
 use Rattle.names.specs.Names.{Bytes}
 use Rattle.names.specs.Segments.{At}
-use Rattle.names.proofs.Parts.{part, at-part, part-length}
+use Rattle.names.proofs.Parts.{into, part, part-length}
 use Rattle.names.proofs.Places.{at-place, at-is}
 use Rattle.records.specs.Records.{Sexp, SN, SC, SI, SQ, SA, sexp-bytes}
 use Rattle.records.specs.Sexps.{all-zero, truthy}
@@ -25,26 +21,6 @@ use Rattle.ordering.specs.Listing.{Names, Lists, Reaches}
 use Rattle.ordering.specs.Provisions.{fields-part}
 use Rattle.ordering.specs.Words.{make-provides-set}
 use Rattle.ordering.proofs.NeedLaws.{names-none, names-then}
-
--- bytes that are all 00, from a place on
-module _ (s : Bytes) (i : ℕ) where
-  zero-at : i < length s → all-zero (drop i s) ≡ (eqb (getD s i 0) 0 && all-zero (drop (i + 1) s))
-  unfolding all-zero
-  zero-at l = rw (add-one, drop-cons s i 0 l)
-
-  pub zero-go : i < length s → getD s i 0 ≡ 0 → all-zero (drop (i + 1) s) ≡ all-zero (drop i s)
-  zero-go l e = sym (zero-at l ∙ ap (λ (t : Bool). t && all-zero (drop (i + 1) s)) (eq-eqb _ _ e))
-
-  pub zero-stop : i < length s → (getD s i 0 ≡ 0 → ⊥) → all-zero (drop i s) ≡ false
-  zero-stop l e = zero-at l ∙ ap (λ (t : Bool). t && all-zero (drop (i + 1) s)) (ne-eqb _ _ e)
-
-  pub zero-end : length s ≤ i → all-zero (drop i s) ≡ true
-  unfolding all-zero
-  zero-end l = rw (drop-of-length-le s l)
-
--- what stands in s at a place stands at the start of the part from there on
-pub into : {s : Bytes} {at : ℕ} {bs : Bytes} → at ≤ length s → At s at bs → At (part s at (length s - at)) 0 bs
-into {s} {at} l k = at-part at (length s - at) k (omega arith) (omega (arith, k .fits))
 
 -- what is known of every tree that stands at a place
 module _ (p : Part) (names : p .0 → List Bytes) (a : Bytes) (ps : List ℕ) where
@@ -60,7 +36,7 @@ module _ {p : Part} {names : p .0 → List Bytes} {a : Bytes} {ps : List ℕ} {s
 
   -- a tree at the start of a part of s stands in s where the part starts
   tells-part : at ≤ length s → Tells p names a ps (part s at (length s - at)) 0 before after n r → Tells p names a ps s at before after n (record { count = r .count; end = at + r .end })
-  tells-part l h t v k = let u = h t v (into l k) in (omega (arith, u .0), u .1)
+  tells-part l h t v k = let u = h t v (into k) in (omega (arith, u .0), u .1)
 
 module _ {p : Part} {names : p .0 → List Bytes} {a : Bytes} {ps : List ℕ} {s : Bytes} {at : ℕ} {before after : List ℕ} {n : ℕ} {r : Listed} where
   pub lists-part : at ≤ length s → Lists p names a ps (part s at (length s - at)) 0 before after n r → Lists p names a ps s at before after n (record { count = r .count; end = at + r .end })

@@ -14,6 +14,7 @@ use views::past::name_view;
 use views::past::past_bytes;
 use views::past::past_head;
 use views::past::tagged_view;
+use views::sexps::all_zero;
 use views::sexps::sexp_view;
 use views::skip::skip;
 ghost use mathlib.Core.Bool.{true, not};
@@ -24,7 +25,7 @@ ghost use lib.ListN.{length};
 ghost use Rattle.names.specs.Segments.{At};
 ghost use Rattle.records.specs.Records.{Sexp, sexp-bytes};
 ghost use Rattle.records.specs.Read.{kind-of};
-ghost use Rattle.records.specs.Sexps.{all-zero, truthy};
+ghost use Rattle.records.specs.Sexps.{truthy};
 ghost use Rattle.records.specs.Valid.{SexpFields};
 ghost use Rattle.records.specs.declared.Family.the-variants.{Body as a-body};
 ghost use Rattle.views.specs.Parts.{family-part, pattern-part, list-part};
@@ -82,20 +83,6 @@ fn child_sexp(a: &[u8], given: &[usize], s: &[u8], at: usize, needs: &mut [u64],
     }
 }
 
-// Whether some byte is not 00.
-fn not_zero(s: &[u8]) -> bool
-    ensures { λ r. ⌜ r ≡ not (all-zero (now (s .entry))) ⌝ }
-{
-    let mut i = 0;
-    while i < s.len() {
-        if s[i] != 0 {
-            return true;
-        }
-        i += 1;
-    }
-    false
-}
-
 // Whether the S record at the start of s is neither nil nor a number zero.
 fn truthy(s: &[u8]) -> bool
     ensures { λ r. ⌜ ((t : Sexp) → SexpFields t → At (now (s .entry)) 0 (sexp-bytes t) → r ≡ truthy t) ⌝ }
@@ -106,7 +93,7 @@ fn truthy(s: &[u8]) -> bool
     let tag = v.tag;
     match tag {
         0 => false,
-        2 => not_zero(&s[start..end]),
+        2 => !all_zero(&s[start..end]),
         _ => true,
     }
 }

@@ -11,26 +11,26 @@ use Rattle.records.specs.declared.Step.the-variants.{Done, Refused}
 use Rattle.names.proofs.Frames.{same-wider}
 use Rattle.names.proofs.Parts.{part, back, part-length, at-part, at-back, same-back}
 
--- what an answer `Done n k c` says
-pub record Made {A : Type 0} (f : A → Bytes) (new : Bytes) (free : ℕ) (t : A) (o : Outcome A) (n k c : ℕ) : Type 0 where
+-- what an answer `Done n k c` says, after `size` bytes
+pub record Made {A : Type 0} (f : A → Bytes) (new : Bytes) (free size : ℕ) (o : Outcome A) (n k c : ℕ) : Type 0 where
   pub u : A
   pub is : o ≡ gives u c
-  pub read : n ≡ length (f t)
+  pub read : n ≡ size
   pub wrote : k ≡ length (f u)
   pub out : At new free (f u)
 
 module _ {A : Type 0} {f : A → Bytes} where
-  module _ {new : Bytes} {free : ℕ} {t : A} {o : Outcome A} {r : Step} where
-    pub made : (n k c : ℕ) → r ≡ Done n k c → Gives f new free t o r → Made f new free t o n k c
+  module _ {new : Bytes} {free size : ℕ} {o : Outcome A} {r : Step} where
+    pub made : (n k c : ℕ) → r ≡ Done n k c → Gives f new free size o r → Made f new free size o n k c
     made n k c d (gave u x e g h) = record { u = u; is = cc; read = cc; wrote = cc; out = h }
     made n k c d (refused j p e g) = let z : _≡_ {A = ℕ} 0 1 = cc in absurd (omega arith)
 
-    pub unmade : (k p : ℕ) → r ≡ Refused k p → Gives f new free t o r → o ≡ refuses k p
+    pub unmade : (k p : ℕ) → r ≡ Refused k p → Gives f new free size o r → o ≡ refuses k p
     unmade k p d (gave u x e g h) = let z : _≡_ {A = ℕ} 0 1 = cc in absurd (omega arith)
     unmade k p d (refused j q e g) = e ∙ (cc)
 
   module _ (xs : Bytes) (a k : ℕ) (le : a + k ≤ length xs) where
-    pub gives-back : {ys : Bytes} {q : ℕ} {t : A} {o : Outcome A} {r : Step} → length ys ≡ k → Gives f ys q t o r → Gives f (back xs a k ys) (a + q) t o r
+    pub gives-back : {ys : Bytes} {q size : ℕ} {o : Outcome A} {r : Step} → length ys ≡ k → Gives f ys q size o r → Gives f (back xs a k ys) (a + q) size o r
     gives-back {ys} len (gave u c e g h) = gave u c e g (at-back xs a k le ys len h)
     gives-back len (refused n p e g) = refused n p e g
 

@@ -19,7 +19,7 @@ use Rattle.views.specs.declared.SexpView.{SexpView}
 use Rattle.views.proofs.Views.{opened, first-of, step, byte-length}
 
 -- the place of a record's mark among those of S records
-abbrev sexp-index : Sexp → ℕ
+abbrev pub sexp-index : Sexp → ℕ
 sexp-index (SN l) = 0
 sexp-index (SC l h t) = 1
 sexp-index (SI l v) = 2
@@ -37,7 +37,7 @@ module _ {s : Bytes} where
   unfolding record-bytes
   mark-of w fs e a = at-is 0 2 refl (sym e) (at-left (ascii w) (flatten fs) a)
 
-  index-of : (t : Sexp) → At s 0 (sexp-bytes t) → mark-index (take 2 (drop 0 s)) sexp-marks ≡ sexp-index t
+  pub index-of : (t : Sexp) → At s 0 (sexp-bytes t) → mark-index (take 2 (drop 0 s)) sexp-marks ≡ sexp-index t
   unfolding sexp-bytes ascii mark-index same
   index-of (SN l) a = ap (λ (x : Bytes). mark-index x sexp-marks) (mark-of "SN" _ refl a)
   index-of (SC l h t) a = ap (λ (x : Bytes). mark-index x sexp-marks) (mark-of "SC" _ refl a)

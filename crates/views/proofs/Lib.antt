@@ -5,3 +5,4 @@ pub mod Views
 pub mod AnySexp
 pub mod Runs
 pub mod CountLaws
+pub mod Zeros

@@ -9,6 +9,7 @@ use crate::past::past_head;
 use crate::skip::past_sexp;
 use records::sexp::sexp_mark;
 ghost use mathlib.Core.Path.{_≡_};
+ghost use Rattle.records.specs.Sexps.{all-zero};
 ghost use Rattle.views.specs.Views.{SeesCons, SeesAtom, SeesSexp, leaf-of};
 
 // An SC.
@@ -64,4 +65,18 @@ pub fn sexp_view(s: &[u8]) -> SexpView
             end: s.len(),
         },
     }
+}
+
+// Whether every byte is 00.
+pub fn all_zero(s: &[u8]) -> bool
+    ensures { λ r. ⌜ r ≡ all-zero (now (s .entry)) ⌝ }
+{
+    let mut i = 0;
+    while i < s.len() {
+        if s[i] != 0 {
+            return false;
+        }
+        i += 1;
+    }
+    true
 }

@@ -17,8 +17,9 @@ use Rattle.records.specs.Read.{binding-zone}
 use Rattle.records.specs.Records.{Loc, Sexp, SN, SC, SI, SQ, SA, Kind, Parallel, Pattern, Body, BL, Bodies, Tail, Binding, BB, Bindings, []ᵍ, _∷ᵍ_, Helper, Helpers, Form, to-bindings, list-of, byte}
 use Rattle.records.specs.Sexps.{nilp, loc-of, is-atom, only}
 use Rattle.records.specs.Valid.{ValidLoc, ValidName, ValidKeyword, ValidHint, ValidSexp, cons-depth, SexpFields, BodyFields, BodiesFields, TailFields, BindingFields, BindingsFields, HelperFields, HelpersFields, FormFields, lambda-depth, bodies-lambda-depth, tail-lambda-depth, binding-lambda-depth, bindings-lambda-depth, helper-lambda-depth, helpers-lambda-depth, form-lambda-depth, NoMod, BodiesNoMod, TailNoMod, BindingNoMod, BindingsNoMod, HelperNoMod, HelpersNoMod, FormNoMod}
-use Rattle.walk.specs.RenameInCons.{requote, rename-in-cons, rename-in-qq, only-in-cons, only-in-qq, rename-atom}
+use Rattle.substitution.specs.RenameInCons.{requote, rename-in-cons, rename-in-qq, only-in-cons, only-in-qq, rename-atom}
 use Rattle.walk.specs.Bodyforms.{desugar-sequential-let-bindings}
+use Rattle.substitution.proofs.Views.{valid-loc-of}
 use Rattle.walk.proofs.All.{All, all-none, all-cons}
 use Rattle.walk.proofs.Sizes.{count-to-bindings, count-list-of}
 
@@ -48,14 +49,6 @@ held-cond false p q = q
 held-only : {n : ℕ} {x y : Sexp} (b : Bool) → Held n x → Held n y → Held n (elim (elim b as (λ _. Option Sexp) [ true ↦ some x | false ↦ none ]) [ none ↦ y | some z ↦ z ])
 held-only true p q = p
 held-only false p q = q
-
-valid-loc-of : (s : Sexp) → SexpFields s → ValidLoc (loc-of s)
-unfolding loc-of SexpFields
-valid-loc-of (SN l) p = p
-valid-loc-of (SC l h t) p = p .0
-valid-loc-of (SI l v) p = p .0
-valid-loc-of (SQ l q n) p = p .0
-valid-loc-of (SA l n) p = p .0
 
 held-requote : {n : ℕ} (l : Loc) (h t : Sexp) → Held n (SC l h t) → Held n (requote l h t)
 unfolding requote only SexpFields cons-depth

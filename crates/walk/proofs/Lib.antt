@@ -1,5 +1,4 @@
 pub mod Cases
-pub mod Steps
 pub mod All
 pub mod Fuel
 pub mod Visits
@@ -9,3 +8,6 @@ pub mod Sizes
 pub mod Limits
 pub mod Kept
 pub mod Again
+pub mod RoomLaws
+pub mod LeafLaws
+pub mod DesugarLaws

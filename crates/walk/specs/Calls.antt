@@ -13,11 +13,12 @@ use Rattle.records.specs.Records.{computing-records, form-bytes, helper-bytes}
 use Rattle.ordering.specs.Toposort.{computing-toposort}
 use Rattle.ordering.specs.OrderCall.{computing-order-call}
 use Rattle.ordering.specs.Words.{computing-words}
-use Rattle.walk.specs.RenameInCons.{computing-rename-in-cons}
+use Rattle.substitution.specs.RenameInCons.{computing-rename-in-cons}
 use Rattle.walk.specs.Bodyforms.{computing-bodyforms}
-use Rattle.walk.specs.Invent.{computing-invent}
+use Rattle.substitution.specs.Invent.{computing-invent}
+use Rattle.walk.specs.Patterns.{computing-patterns}
 use Rattle.walk.specs.Helperforms.{computing-helperforms, whole-walk, children-walk, helper-walk}
-use Rattle.walk.specs.Steps.{computing-steps, M, Out, done, refused, Visit}
+use Rattle.substitution.specs.Steps.{computing-steps, M, Out, done, refused, Visit}
 
 -- the assigns that a walk reached
 unfoldable pub visits : {A : Type 0} → Out A → List Visit
@@ -64,5 +65,5 @@ helper-visits = visits-of (readers level-limit .helper) helper-walk
 
 -- unfolds with every definition of the calls and of what they cite
 unfoldable pub computing-all : Unit {0}
-unfolding computing-names computing-maps computing-answers computing-records computing-sexps computing-read computing-opened computing-toposort computing-words computing-order-call computing-rename-in-cons computing-steps computing-invent computing-bodyforms computing-helperforms visits answered rename-call visits-of whole-call children-call helper-call whole-visits children-visits helper-visits
+unfolding computing-names computing-maps computing-answers computing-records computing-sexps computing-read computing-opened computing-toposort computing-words computing-order-call computing-rename-in-cons computing-steps computing-invent computing-patterns computing-bodyforms computing-helperforms visits answered rename-call visits-of whole-call children-call helper-call whole-visits children-visits helper-visits
 computing-all = tt

@@ -1,8 +1,7 @@
-pub mod RenameInCons
-pub mod Steps
-pub mod Sums
-pub mod Invent
+pub mod Patterns
 pub mod Bodyforms
 pub mod Helperforms
 pub mod Calls
 pub mod Assigns
+pub mod Leaves
+pub mod Room

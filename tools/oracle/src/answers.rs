@@ -18,7 +18,7 @@ pub const MAX_COUNTER: u64 = 4294967295;
 pub const MIN_F: u64 = 64;
 pub const MAX_F: u64 = 16384;
 pub const WORK_PER_F: u64 = 256;
-const MAX_NAME: usize = 255;
+pub const MAX_NAME: usize = 255;
 
 #[derive(Clone, Copy, Debug, PartialEq, Eq)]
 pub enum Call {
@@ -244,7 +244,7 @@ impl Trees {
 }
 
 /// Runs the Rust from a counter. Its one error is the deadlock; a panic is a disagreement.
-fn run<T>(from: u64, rust: impl Fn() -> Result<T, CompileErr>) -> Checked<Result<T, Refusal>> {
+pub(crate) fn run<T>(from: u64, rust: impl Fn() -> Result<T, CompileErr>) -> Checked<Result<T, Refusal>> {
     set_counter(from);
     let result = catch_unwind(AssertUnwindSafe(rust)).map_err(|_| "the Rust panics".to_string())?;
     Ok(result.or_else(|error| deadlock(error.0.number)))
@@ -258,6 +258,6 @@ fn set_counter(from: u64) {
     ARGNAME_CTR.store(from as usize, Ordering::SeqCst);
 }
 
-fn counter() -> u64 {
+pub(crate) fn counter() -> u64 {
     ARGNAME_CTR.load(Ordering::SeqCst) as u64
 }

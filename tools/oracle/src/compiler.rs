@@ -50,4 +50,23 @@ pub mod gensym {
 
 pub mod rename {
     include!(concat!(env!("OUT_DIR"), "/rename.rs"));
+
+    /// What the file keeps to itself.
+    pub mod inner {
+        use super::{BodyForm, CompileErr, HashMap, Rc, SExp};
+
+        pub type Map = HashMap<Vec<u8>, Vec<u8>>;
+
+        pub fn invent_new_names_sexp(body: Rc<SExp>) -> Vec<(Vec<u8>, Vec<u8>)> {
+            super::invent_new_names_sexp(body)
+        }
+
+        pub fn rename_in_qq(namemap: &Map, body: Rc<SExp>) -> Rc<SExp> {
+            super::rename_in_qq(namemap, body)
+        }
+
+        pub fn rename_in_bodyform(namemap: &Map, body: Rc<BodyForm>) -> Result<BodyForm, CompileErr> {
+            super::rename_in_bodyform(namemap, body)
+        }
+    }
 }

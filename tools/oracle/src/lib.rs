@@ -19,5 +19,7 @@ pub mod reads;
 pub mod records;
 pub mod rows;
 pub mod sample;
+pub mod sexps;
+mod stored;
 mod util;
 pub mod vectors;

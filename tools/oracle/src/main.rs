@@ -5,7 +5,7 @@ use oracle::generate::Maker;
 use oracle::orders;
 use oracle::reads::{self, Series};
 use oracle::records::{Bytes, Record};
-use oracle::{cases, compare, print, rows, sample, vectors};
+use oracle::{cases, compare, print, rows, sample, sexps, vectors};
 use std::io::{self, BufRead};
 use std::process::ExitCode;
 
@@ -24,6 +24,8 @@ const HELP: &str = "oracle COMMAND ..
                       writes N of them, most of them small, to a file
   store-orders --count N --seed S [--long] FILE
                       writes N different cases of the call order to a file, most of them small; or of any length
+  store-sexps --count N --seed S FILE
+                      writes N different cases of Invent and Substitute to a file, most of them small
   rows [--batch N]    reads vector lines and prints an antt file that checks them by computation
   show HEX            a CF, a helper or an assign, readable
   run CALL HEX [COUNTER]
@@ -63,6 +65,9 @@ fn command(words: &[&str]) -> Done {
             let series = if options.contains(&"--long") { orders::Series::full(seed) } else { orders::Series::short(seed) };
             orders::store(series, count)
         }),
+        ["store-sexps", options @ .., file] => {
+            store(file, options, |seed, count| sexps::store(sexps::Series::seeded(seed), count))
+        }
         ["rows", options @ ..] => rows::rows(&input_lines()?, number(options, "--batch", Some(rows::BATCH))? as usize),
         ["show", hex] => show(hex),
         ["run", call, hex] => run(call_named(call)?, &vectors::from_hex(hex)?, 0),

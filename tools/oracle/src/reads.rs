@@ -9,6 +9,7 @@ pub use series::Series;
 
 use crate::reader::{self, Refusal};
 use crate::records::Bytes;
+use crate::stored::two_bytes;
 use crate::vectors::hex;
 use std::collections::HashSet;
 
@@ -68,8 +69,8 @@ impl Reading {
     pub fn stored(&self) -> Bytes {
         let Refusal { number, place } = self.refusal();
         let mut bytes = vec![self.asked as u8, number as u8];
-        for field in [self.f, place, self.input.len() as u64] {
-            bytes.extend(u16::try_from(field).expect("a field of two bytes").to_be_bytes());
+        for field in [self.f as usize, place as usize, self.input.len()] {
+            bytes.extend(two_bytes(field));
         }
         bytes.extend(&self.input);
         bytes

@@ -1,0 +1,210 @@
+// The one place that knows Invent and Substitute.
+use names::bytes::is_word;
+use names::bytes::put;
+use records::MOST_LONGEST;
+use records::Opening;
+use records::Step;
+use records::WORK_FACTOR;
+use records::Wanted;
+use records::input::open_input;
+use records::record::body_mark;
+use substitution::Invented;
+use substitution::invent::invent_new_names_sexp;
+use substitution::substitute::rename_atom;
+use substitution::substitute::rename_in_cons;
+use substitution::substitute::rename_in_qq;
+use views::bodies::quote_view;
+use views::helpers::form_view;
+ghost use Prim.Native.Nat.{_+_, _*_, _≤_};
+ghost use lib.ListN.{length};
+ghost use Rattle.names.specs.Maps.{NameMap};
+ghost use Rattle.names.specs.Segments.{At};
+ghost use Rattle.records.specs.Records.{Sexp, Form};
+ghost use Rattle.replay_sexps.specs.Cases.{Taken, FormIn, SexpsIn, Ready};
+ghost use Rattle.substitution.specs.Arena.{MapAt, SexpAtStart};
+
+// What memory is filled with behind the input.
+const FILL: u8 = 7;
+
+// The length of work memory that is enough for every F.
+const WORK: usize = WORK_FACTOR * MOST_LONGEST;
+
+// How many bytes of memory each byte of an input takes, with the map that it can leave.
+pub const FACTOR: usize = 4;
+
+// The index of BV among the marks of the B records.
+const VALUE: u8 = 2;
+
+// What a case gives beside its input, and the numbers and the counter that it must get.
+pub struct Case {
+    pub f: usize,
+    pub room: usize,
+    pub counter: u64,
+    pub rule: u8,
+    pub invented: u32,
+    pub after: u64,
+    pub substituted: u32,
+}
+
+// Where the S record starts that names are drawn from, where the body starts, one byte behind its
+// end, and where the S record starts that is substituted.
+struct Places {
+    pattern: usize,
+    body: usize,
+    target: usize,
+}
+
+fn fill(mem: &mut [u8]) {
+    let mut i = 0;
+    while i < mem.len() {
+        mem[i] = FILL;
+        i += 1;
+    }
+}
+
+// Fills memory, with the input at its front.
+fn load(mem: &mut [u8], input: &[u8])
+    requires { ⌜ length (now input) ≤ length (now mem) ⌝ }
+    ensures { λ _. ⌜ At (now (mem .exit)) 0 (now (input .entry)) ⌝ }
+{
+    fill(mem);
+    put(mem, 0, input);
+}
+
+// Whether no byte differs from what memory was filled with.
+fn untouched(rest: &[u8]) -> bool {
+    let mut i = 0;
+    while i < rest.len() {
+        if rest[i] != FILL {
+            return false;
+        }
+        i += 1;
+    }
+    true
+}
+
+// Whether memory holds what it must: the input at its front, what it was filled with from a place up
+// to the map, and the map at its end.
+fn holds(mem: &[u8], input: &[u8], from: usize, map: &[u8]) -> bool {
+    if map.len() > mem.len() {
+        return false;
+    }
+    let top = mem.len() - map.len();
+    if from > top {
+        return false;
+    }
+    is_word(mem, 0, input) && untouched(&mem[from..top]) && is_word(mem, top, map)
+}
+
+// Whether a step answers as it must: it read and wrote so many bytes and left the counter, or it is
+// refused.
+fn same_step(number: u32, read: usize, wrote: usize, counter: u64, step: Step) -> bool {
+    match step {
+        Step::Done(r, w, c) => number == 0 && r == read && w == wrote && c == counter,
+        Step::Refused(k, place) => k == number && place == 0,
+    }
+}
+
+// Substitutes the S record at the start of memory by the rule of a case.
+fn substitute(rule: u8, mem: &mut [u8], free: usize, len: usize, f: usize, counter: u64) -> Step
+    requires { ⌜ ((t : Sexp) × SexpAtStart (now mem) free t) ⌝ }
+    requires { ⌜ ((m : NameMap) × MapAt (now mem) len m) ⌝ }
+    requires { ⌜ free + f + len ≤ length (now mem) ⌝ }
+{
+    match rule {
+        0 => rename_in_cons(mem, free, len, false, f, counter),
+        1 => rename_in_cons(mem, free, len, true, f, counter),
+        2 => rename_in_qq(mem, free, len, true, f, counter),
+        _ => rename_atom(mem, free, len, f, counter),
+    }
+}
+
+// Whether Substitute answers as it must: the map of `len` bytes stands at the end of memory.
+fn renames(
+    c: Case,
+    mem: &mut [u8],
+    input: &[u8],
+    target: usize,
+    len: usize,
+    map: &[u8],
+    wanted: &[u8],
+) -> bool
+    requires { ⌜ ((t : Sexp) × (m : NameMap) × Ready (now mem) (length (now input)) target len (c .room) t m) ⌝ }
+{
+    let n = input.len();
+    let free = n - target;
+    let step = substitute(c.rule, &mut mem[target..], free, len, c.room, c.after);
+    same_step(c.substituted, free, wanted.len(), c.after, step)
+        && is_word(mem, n, wanted)
+        && holds(mem, input, n + c.room, map)
+}
+
+// Whether Invent answers as it must, where it is not refused: the counter, the length of the
+// pattern, which ends one byte before the body, and the length of the map.
+fn same_draw(counter: u64, at: Places, len: usize, drawn: Invented) -> bool {
+    if at.body <= at.pattern {
+        return false;
+    }
+    drawn.counter == counter && drawn.end == at.body - at.pattern - 1 && drawn.len == len
+}
+
+// Whether both calls answer as they must.
+fn draws(c: Case, mem: &mut [u8], input: &[u8], at: Places, map: &[u8], wanted: &[u8]) -> bool
+    requires { ⌜ Taken (now input) (c .counter) ⌝ }
+    requires { ⌜ ((p : Sexp) × (t : Sexp) × SexpsIn (now input) (at .pattern) (at .target) p t) ⌝ }
+    requires { ⌜ 4 * length (now input) + c .room ≤ length (now mem) ⌝ }
+{
+    load(mem, input);
+    let pattern = at.pattern;
+    let drawn = invent_new_names_sexp(&mut mem[pattern..], 0, c.counter);
+    if drawn.number != c.invented {
+        return false;
+    }
+    if drawn.number != 0 {
+        return is_word(mem, 0, input);
+    }
+    if !same_draw(c.after, at, map.len(), drawn) {
+        return false;
+    }
+    if !holds(mem, input, input.len(), map) {
+        return false;
+    }
+    renames(c, mem, input, at.target, drawn.len, map, wanted)
+}
+
+// Finds the two S records of a form, and lends memory by the length of the input and the room.
+fn finds(c: Case, mem: &mut [u8], input: &[u8], map: &[u8], wanted: &[u8]) -> bool
+    requires { ⌜ Taken (now input) (c .counter) ⌝ }
+    requires { ⌜ ((f : Form) × FormIn (now input) f) ⌝ }
+{
+    let v = form_view(input);
+    let body = v.first;
+    if v.count != 0 {
+        return false;
+    }
+    if body_mark(&input[body..]) != VALUE {
+        return false;
+    }
+    let at = Places {
+        pattern: v.args,
+        body,
+        target: body + quote_view(&input[body..]),
+    };
+    let enough = FACTOR * input.len();
+    if enough > mem.len() {
+        return false;
+    }
+    if c.room > mem.len() - enough {
+        return false;
+    }
+    let enough = enough + c.room;
+    draws(c, &mut mem[..enough], input, at, map, wanted)
+}
+
+// Whether the calls answer a case as they must; its input has to be a form.
+pub fn agrees(c: Case, mem: &mut [u8], input: &[u8], map: &[u8], wanted: &[u8]) -> bool {
+    match open_input(Wanted::Form, c.f, WORK, c.counter, input) {
+        Opening::Refused(_, _) => false,
+        Opening::Accepted => finds(c, mem, input, map, wanted),
+    }
+}

@@ -1,0 +1,29 @@
+-- `substitution::invent::put_entry` meets its contract. Assumes nothing.
+use borrow.Author.Needs.{needs}
+use native.Mathlib.Omega.{arith}
+use Rattle.names.proofs.Segments.{filled-then}
+use Rattle.substitution.proofs.MapLaws.{entry-length, name-field-length}
+use Rattle.substitution.proofs.invent.put_entry.Statement.{statement}
+use Rattle.substitution.proofs.invent.put_entry.Tie as tie
+
+put-name-requires : tie.Need-put-name-requires
+put-name-requires c κs =
+    let a = c .before .before .before .before .args in
+    let l = entry-length (a .old .now) (a .new .now) in
+    let k = name-field-length (a .old .now) in
+    (omega arith, omega arith)
+
+put-name-requires-2 : tie.Need-put-name-requires-2
+put-name-requires-2 c κs =
+    let a = c .before .before .before .before .before .before .before .before .args in
+    let l = entry-length (a .old .now) (a .new .now) in
+    let k = name-field-length (a .new .now) in
+    (omega arith, omega (arith, c .before .before .before .put-name .kept .0))
+
+returns : tie.Need-returns
+returns c =
+    let s = c .before .before .before .before .before .before .before .before .before .before .before in
+    filled-then (c .before .before .before .before .before .before .put-name .ensures) (c .before .before .put-name2 .ensures) (omega (arith, name-field-length (s .args .old .now))) (s .pre .1)
+
+pub put-entry-spec : {M : Type 1} → statement M
+put-entry-spec = tie.close (tie.spec put-name-requires (λ c. search needs) (λ c. search needs) put-name-requires-2 (λ c. search needs) returns)

@@ -1,0 +1,18 @@
+-- `substitution::invent::put_name` meets its contract. Assumes nothing.
+use borrow.Author.Needs.{needs}
+use native.Mathlib.Omega.{arith}
+use Rattle.substitution.proofs.MapLaws.{name-field-length, name-filled}
+use Rattle.substitution.proofs.invent.put_name.Statement.{statement}
+use Rattle.substitution.proofs.invent.put_name.Tie as tie
+
+put-number-requires : tie.Need-put-number-requires
+put-number-requires c κs = let l = name-field-length (c .before .before .before .args .name .now) in (omega arith, omega arith)
+
+put-requires : tie.Need-put-requires
+put-requires c κs = omega (arith, name-field-length (c .before .before .before .before .before .before .before .args .name .now), c .before .before .before .put-number .kept .0)
+
+returns : tie.Need-returns
+returns c = name-filled _ (c .before .before .before .before .before .before .put-number .ensures) (c .before .before .put .ensures) (c .before .before .before .before .before .before .before .before .before .before .pre .1)
+
+pub put-name-spec : {M : Type 1} → statement M
+put-name-spec = tie.close (tie.spec put-number-requires (λ c. search needs) put-requires (λ c. search needs) returns)

@@ -1,0 +1,33 @@
+//! Stored cases: those of a series that differ, one after the other, and fields of a fixed width.
+
+use crate::answers::Checked;
+use crate::records::Bytes;
+use std::collections::HashSet;
+
+pub fn one_byte(field: usize) -> u8 {
+    u8::try_from(field).expect("a field of one byte")
+}
+
+pub fn two_bytes(field: usize) -> [u8; 2] {
+    u16::try_from(field).expect("a field of two bytes").to_be_bytes()
+}
+
+/// So many cases of a series that differ, as `stored` gives each.
+pub fn distinct<Case>(
+    series: impl Iterator<Item = Case>,
+    count: usize,
+    stored: impl Fn(&Case) -> Checked<Bytes>,
+) -> Checked<Bytes> {
+    let mut seen = HashSet::new();
+    let mut all = Bytes::new();
+    for case in series {
+        let bytes = stored(&case)?;
+        if seen.insert(bytes.clone()) {
+            all.extend(bytes);
+        }
+        if seen.len() >= count {
+            break;
+        }
+    }
+    Ok(all)
+}
