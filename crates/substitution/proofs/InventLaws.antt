@@ -17,7 +17,7 @@ use Rattle.names.proofs.Places.{at-is}
 use Rattle.records.specs.Records.{Loc, SA}
 use Rattle.substitution.specs.Invent.{draw, invent-new-names-sexp}
 use Rattle.substitution.specs.Inventing.{NameRoom, NameFrom, Grown, Draws, drew, too-long, Pushes, InventsAtom}
-use Rattle.substitution.specs.Steps.{done, refused, _>>=_, after, ret}
+use Rattle.substitution.specs.Steps.{Out, done, refused, _>>=_, after, ret}
 use Rattle.substitution.specs.declared.Invented.{Invented}
 use Rattle.substitution.proofs.MapLaws.{entry, entry-length, entry-bound, map-grown}
 
@@ -125,13 +125,26 @@ module _ (m : NameMap) (l : Loc) (n : Bytes) (c x : ℕ) where
   unfolding invent-new-names-sexp ret
   atom-kept t = rw (t, invent-new-names-sexp)
 
+  abbrev entered : Out NameMap
+  entered = (draw n >>= λ n′. ret ((n, n′) ∷ m)) c x
+
+  entered-made : {g : Bytes} {k y : ℕ} → draw n c x ≡ done [] g k y → entered ≡ done [] ((n, g) ∷ m) k y
+  unfolding ret _>>=_ after
+  entered-made e = rw (e, _>>=_)
+
+  entered-long : {k p : ℕ} → draw n c x ≡ refused [] k p → entered ≡ refused [] k p
+  unfolding _>>=_
+  entered-long e = rw (e, _>>=_)
+
+  atom-entered : same n (ascii "@") ≡ false → invent-new-names-sexp m (SA l n) c x ≡ entered
+  unfolding invent-new-names-sexp
+  atom-entered t = rw (t, invent-new-names-sexp)
+
   atom-made : {g : Bytes} {k y : ℕ} → same n (ascii "@") ≡ false → draw n c x ≡ done [] g k y → invent-new-names-sexp m (SA l n) c x ≡ done [] ((n, g) ∷ m) k y
-  unfolding invent-new-names-sexp ret _>>=_ after
-  atom-made t e = rw (t, invent-new-names-sexp) (rw (e, _>>=_))
+  atom-made t e = atom-entered t ∙ entered-made e
 
   atom-long : {k p : ℕ} → same n (ascii "@") ≡ false → draw n c x ≡ refused [] k p → invent-new-names-sexp m (SA l n) c x ≡ refused [] k p
-  unfolding invent-new-names-sexp _>>=_
-  atom-long t e = rw (t, invent-new-names-sexp) (rw (e, _>>=_))
+  atom-long t e = atom-entered t ∙ entered-long e
 
 module _ {old : Bytes} {start end len c : ℕ} where
   pub invents-kept : same (between old start end) (ascii "@") ≡ true → InventsAtom old old start end len c (record { number = 0; len = len; counter = c; end = end })
