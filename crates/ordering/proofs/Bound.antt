@@ -12,14 +12,16 @@ use Rattle.names.proofs.Frames.{filled-set}
 use Rattle.names.proofs.Parts.{at-part, at-from-part}
 use Rattle.names.proofs.Places.{at-left, at-right}
 use Rattle.names.proofs.Segments.{filled-then}
-use Rattle.records.specs.Limits.{level-limit, lambda-limit, most-longest}
-use Rattle.records.specs.Records.{Loc, loc-width, record-bytes, Pattern, pattern-field, Body, body-bytes, Kind, Binding, BB, binding-bytes, Bindings, []ᵍ, _∷ᵍ_, bindings-bytes, bindings-count, list-of}
-use Rattle.records.specs.Depth.{depth, binding-depth, bindings-depth}
-use Rattle.records.specs.Valid.{ValidBody, BodyFields, BindingFields, BindingsFields, lambda-depth, binding-lambda-depth, bindings-lambda-depth}
+use Rattle.records.specs.Limits.{most-longest}
+use Rattle.records.specs.Records.{Loc, loc-width, record-bytes, Pattern, pattern-field, Body, body-bytes, Kind, Binding, BB, binding-bytes, Bindings, list-of}
+use Rattle.records.specs.Depth.{depth, binding-depth}
+use Rattle.records.specs.Valid.{ValidBody, BodyFields, BindingFields, lambda-depth, binding-lambda-depth}
 use Rattle.records.specs.declared.Family.the-variants.{Body as a-body}
-use Rattle.views.specs.Parts.{ValidBinding, Past, fixed-part, pattern-part, family-part, joined, Each}
+use Rattle.records.specs.Lists.{joined, Each}
+use Rattle.views.specs.Parts.{ValidBinding, Past, fixed-part, pattern-part, family-part}
 use Rattle.views.specs.Views.{Stands, PastHead, SeesLet}
 use Rattle.views.specs.declared.LetView.{LetView}
+use Rattle.views.proofs.Lists.{list-count, list-bytes, list-valid}
 use Rattle.views.proofs.Views.{opened, first-of, rest-of, step}
 use Rattle.ordering.specs.declared.Listed.{Listed}
 use Rattle.ordering.specs.Assign.{nothing, need-limit, body-of, body-at, all-needs, Bound, BindingNames, FindsNames, Collectable, Let, Ordered}
@@ -208,22 +210,6 @@ few-all (BB l nl p b ∷ bs) v =
 pub bound-fits : {s : Bytes} {at n : ℕ} {bs : List Binding} → Bound s at n bs → length s ≤ most-longest → length (all-needs bs bs) ≤ need-limit
 unfolding all-needs
 bound-fits {bs = bs} b top = omega (arith, few-needs (items bs) (all-words (λ c. words (body-of c)) bs), few-all bs (b .valid .1), b .there .fits)
-
--- the bindings of a let
-pub list-count : (bs : Bindings) → length (list-of bs) ≡ bindings-count bs
-unfolding list-of bindings-count
-list-count []ᵍ = refl
-list-count (b ∷ᵍ bs) = ap suc (list-count bs)
-
-list-bytes : (bs : Bindings) → joined binding-bytes (list-of bs) ≡ bindings-bytes bs
-unfolding list-of joined bindings-bytes
-list-bytes []ᵍ = refl
-list-bytes (b ∷ᵍ bs) = ap (λ (x : Bytes). binding-bytes b ++ x) (list-bytes bs)
-
-list-valid : (bs : Bindings) → BindingsFields bs → bindings-depth bs ≤ level-limit → bindings-lambda-depth bs ≤ lambda-limit → Each ValidBinding (list-of bs)
-unfolding list-of Each BindingsFields bindings-depth bindings-lambda-depth
-list-valid []ᵍ v d k = tt
-list-valid (b ∷ᵍ bs) v d k = ((v .0, omega arith, omega arith), list-valid bs (v .1) (omega arith) (omega arith))
 
 pub let-bound : {s : Bytes} {v : LetView} {k : Kind} {l : Loc} {w h : Bytes} {bs : Bindings} {b : Body} → SeesLet s v → Let s k l w h bs b
     → Bound s (v .first) (v .count) (list-of bs) × (v .count ≤ binding-limit)

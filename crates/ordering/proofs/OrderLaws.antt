@@ -28,7 +28,7 @@ use Rattle.ordering.specs.OrderCall.{bindings-of, let-loc, stuck-answer,
 use Rattle.ordering.specs.Toposort.{ordered, deadlock, rounds}
 use Rattle.ordering.specs.Words.{items, toposort-assign-bindings}
 use Rattle.ordering.specs.declared.Order.{Order}
-use Rattle.ordering.proofs.Bound.{list-count}
+use Rattle.views.proofs.Lists.{list-count}
 
 module _ {before after : Bytes} {c : ℕ} where
   -- the indices in order are written

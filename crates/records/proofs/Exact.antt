@@ -12,6 +12,7 @@ use lib.ListN.{length, length-append, drop}
 use lib.Seq.{drop-append-seam}
 use Rattle.names.specs.Names.{Bytes, ascii, same, number-field, number-of, number-after, name-field}
 use Rattle.names.proofs.Same.{same→eq}
+use Rattle.records.specs.Lists.{joined}
 use Rattle.records.specs.Limits.{level-limit, cons-limit, count-limit}
 use Rattle.records.proofs.Readers.{Any, not-done, same-value, same-input, T-of, reads-whole}
 use Rattle.records.specs.Records.{byte, loc-width, raw-width, integer-field, Sexp, SN, SC, SI, SQ, SA, sexp-bytes, record-bytes, Kind, Assign, kind-field, Name, Complex, pattern-field, Body, BL, BQ, BV, BC, BM, BF, body-bytes, bodies-bytes, tail-bytes, no-tail, tail, Binding, BB, binding-bytes, bindings-bytes, Helper, HC, HM, HD, HN, HR, helper-bytes, helpers-bytes, Form, CF, form-bytes, to-bodies, to-bindings, to-helpers, bodies-count, bindings-count, helpers-count}
@@ -98,20 +99,15 @@ exact-next = record { takes = λ c i b j h. go c i b j (i .rest) refl h }
     go c i b j [] e h = absurd (not-done h)
     go c i b j (x ∷ xs) e h = (cc (e, same-value h, ap (λ (l : Input). l .rest) (same-input h)), tt, omega (arith, ap (λ (l : Input). l .offset) (same-input h)))
 
--- what g writes of each
-abbrev pub each : {A : Type 0} → (A → Bytes) → List A → Bytes
-each g [] = []
-each g (a ∷ as′) = g a ++ each g as′
-
-pub exact-times : {A : Type 0} {P : A → Type 0} {g : A → Bytes} {m : Reader A} (n : ℕ) → Exact P g [] m → Exact (λ l. length l ≡ n) (each g) [] (times n m)
-unfolding times
+pub exact-times : {A : Type 0} {P : A → Type 0} {g : A → Bytes} {m : Reader A} (n : ℕ) → Exact P g [] m → Exact (λ l. length l ≡ n) (joined g) [] (times n m)
+unfolding times joined
 exact-times zero e = exact-ret [] refl refl
 exact-times (suc n) e = exact-bind e λ a p. exact-bind (exact-times n e) λ l q. exact-ret (a ∷ l) (ap suc q) refl
 
-each-byte : (l : Bytes) → each byte l ≡ l
-unfolding byte
-each-byte [] = refl
-each-byte (x ∷ xs) = ap (λ (r : Bytes). x ∷ r) (each-byte xs)
+joined-byte : (l : Bytes) → joined byte l ≡ l
+unfolding byte joined
+joined-byte [] = refl
+joined-byte (x ∷ xs) = ap (λ (r : Bytes). x ∷ r) (joined-byte xs)
 
 -- n bytes as they stand
 abbrev pub raw : Bytes → Bytes
@@ -119,7 +115,7 @@ raw l = l
 
 pub exact-bytes : (n : ℕ) → Exact (λ l. length l ≡ n) raw [] (bytes n)
 unfolding bytes
-exact-bytes n = exact-last (λ l q. each-byte l) (λ l q. q) (exact-times n exact-next)
+exact-bytes n = exact-last (λ l q. joined-byte l) (λ l q. q) (exact-times n exact-next)
 
 pub exact-loc : Exact (λ l. length l ≡ loc-width) raw [] loc
 exact-loc = exact-bytes loc-width
@@ -244,8 +240,8 @@ unfolding call-tail
 exact-call-tail e = exact-bind (exact-up-to 1) λ b p. exact-tail-after e b p
 
 -- the lists of a record
-bindings-back : (l : List Binding) → bindings-bytes (to-bindings l) ≡ each binding-bytes l
-unfolding bindings-bytes to-bindings
+bindings-back : (l : List Binding) → bindings-bytes (to-bindings l) ≡ joined binding-bytes l
+unfolding joined bindings-bytes to-bindings
 bindings-back [] = refl
 bindings-back (b ∷ bs) = ap (λ (x : Bytes). binding-bytes b ++ x) (bindings-back bs)
 
@@ -254,8 +250,8 @@ unfolding bindings-count to-bindings
 bindings-counted [] = refl
 bindings-counted (b ∷ bs) = ap suc (bindings-counted bs)
 
-bodies-back : (l : List Body) → bodies-bytes (to-bodies l) ≡ each body-bytes l
-unfolding bodies-bytes to-bodies
+bodies-back : (l : List Body) → bodies-bytes (to-bodies l) ≡ joined body-bytes l
+unfolding joined bodies-bytes to-bodies
 bodies-back [] = refl
 bodies-back (b ∷ bs) = ap (λ (x : Bytes). body-bytes b ++ x) (bodies-back bs)
 
@@ -264,8 +260,8 @@ unfolding bodies-count to-bodies
 bodies-counted [] = refl
 bodies-counted (b ∷ bs) = ap suc (bodies-counted bs)
 
-helpers-back : (l : List Helper) → helpers-bytes (to-helpers l) ≡ each helper-bytes l
-unfolding helpers-bytes to-helpers
+helpers-back : (l : List Helper) → helpers-bytes (to-helpers l) ≡ joined helper-bytes l
+unfolding joined helpers-bytes to-helpers
 helpers-back [] = refl
 helpers-back (b ∷ bs) = ap (λ (x : Bytes). helper-bytes b ++ x) (helpers-back bs)
 

@@ -13,7 +13,8 @@ use Rattle.records.specs.Records.{SN, Name, BL, BV, BC, BM, BF, no-tail,
 use Rattle.records.specs.Read.{InMod, Context, Read, done, refused, Reader, malformed, _>>=_, _>>_, ret, times, deeper, in-bindings, loc, name, raw-field, keyword, hint, count, at-most, sexp, sexp-at, note, kind-of, more-levels, binding-zone, pattern-of, binding, binding-after, let-of, let-after, tail-after, call-tail, call-after, mod-after, lambda-after, constant-after, macro-after, function-after, namespace-after, reference-after, form-after, readers}
 use Rattle.records.specs.Scan.{scan-of, input-at, reader-of, times-of, many-of, body-after, lambda-within, helper-after, let-of-kind, tail-of, below, below-lambda, in-zone-of, refusal, Comes, Reads, Goes}
 use Rattle.records.proofs.Readers.{Any}
-use Rattle.records.proofs.Exact.{Exact, exact-loc, exact-name, exact-raw-field, exact-keyword, exact-hint, exact-count, exact-up-to, exact-sexp, exact-note, exact-times, exact-bind, exact-last, exact-pattern-of, exact-call-tail, exact-in-zone, exact-in-bindings, exact-readers, each}
+use Rattle.records.specs.Lists.{joined}
+use Rattle.records.proofs.Exact.{Exact, exact-loc, exact-name, exact-raw-field, exact-keyword, exact-hint, exact-count, exact-up-to, exact-sexp, exact-note, exact-times, exact-bind, exact-last, exact-pattern-of, exact-call-tail, exact-in-zone, exact-in-bindings, exact-readers}
 use Rattle.records.proofs.Scans.{by-number, going, staying, comes-of, comes-bind, comes-ret, reads-bind, reads-ret}
 use Rattle.records.proofs.ContextLaws.{comes-deeper, comes-shallow, comes-in-lambda, comes-no-lambda, comes-in-zone, comes-in-bindings}
 use Rattle.records.proofs.Goes.{exact-of, comes-byte, comes-stop, bytes-of}
@@ -35,9 +36,9 @@ comes-assoc {A} {B} {C} m k l {x} {s} {c} {r} h = record {
     go (refused n p) = refl
 
 -- a count and that many records, whatever they are
-exact-many : (f : Family) (fuel : ℕ) → Exact Any (λ l. byte (length l) ++ each (bytes-of f fuel) l) [] (many-of f fuel .1)
+exact-many : (f : Family) (fuel : ℕ) → Exact Any (λ l. byte (length l) ++ joined (bytes-of f fuel) l) [] (many-of f fuel .1)
 unfolding byte
-exact-many f fuel = exact-bind exact-count λ n p. exact-last (λ l q. ap (λ (k : ℕ). k ∷ each (bytes-of f fuel) l) (sym q)) (λ l q. tt) (exact-times n (exact-of f fuel))
+exact-many f fuel = exact-bind exact-count λ n p. exact-last (λ l q. ap (λ (k : ℕ). k ∷ joined (bytes-of f fuel) l) (sym q)) (λ l q. tt) (exact-times n (exact-of f fuel))
 
 module _ {x : Context} {s : Bytes} {c : Scan} (l : c .at ≤ length s) where
   -- BC, and its tail

@@ -10,6 +10,7 @@ use native.Mathlib.Omega.{arith}
 use lib.Dec.{leb, eqb, leb→le}
 use lib.ListN.{length}
 use Rattle.names.specs.Names.{Bytes, ascii, same, number-of, number-after, name-width, name-limit}
+use Rattle.records.specs.Lists.{Each}
 use Rattle.records.specs.Limits.{level-limit, cons-limit, lambda-limit, count-limit}
 use Rattle.records.specs.Records.{loc-width, raw-width, byte, Sexp, SN, SC, SI, SQ, SA, Kind, Assign, Name, Complex, Body, BL, BQ, BV, BC, BM, BF, Tail, no-tail, tail, Binding, BB, Helper, HC, HM, HD, HN, HR, Form, CF, to-bodies, to-bindings, to-helpers, integer-width}
 use Rattle.records.specs.Valid.{IsByte, AreBytes, ValidLoc, ValidName, WithLoc, ValidKeyword, ValidHint, ValidRaw, ValidCount, cons-depth, SexpFields, ValidSexp, ValidPattern, BodyFields, BodiesFields, TailFields, BindingFields, BindingsFields, HelperFields, HelpersFields, FormFields, lambda-depth, bodies-lambda-depth, tail-lambda-depth, binding-lambda-depth, bindings-lambda-depth, helper-lambda-depth, helpers-lambda-depth, form-lambda-depth, ValidHelper, ValidForm, ValidAssign, IsLet}
@@ -78,14 +79,9 @@ yields-in-lambda {A} {P} {m} k s = record { yields = λ c i b j q x h. go c i b 
     go c i b j q x true e h = s (omega (arith, leb→le 1 (c .lambdas) (T-of e))) .yields _ i b j (ap (λ (y : ℕ). y - 1) q) x h
     go c i b j q x false e h = absurd (not-done h)
 
--- each of a list
-abbrev pub All : {A : Type 0} → (A → Type 0) → List A → Type 0
-All P [] = Unit {0}
-All P (a ∷ l) = P a × All P l
-
 module _ {A : Type 0} {k : ℕ} {P : A → Type 0} {m : Reader A} where
-  yields-times : (n : ℕ) → Yields k P m → Yields k (λ l. All P l × (length l ≡ n)) (times n m)
-  unfolding times
+  yields-times : (n : ℕ) → Yields k P m → Yields k (λ l. Each P l × (length l ≡ n)) (times n m)
+  unfolding times Each
   yields-times zero s = yields-ret [] (tt, refl)
   yields-times (suc n) s = yields-bind s λ a p. yields-bind (yields-times n s) λ l q. yields-ret (a ∷ l) ((p, q .0), ap suc (q .1))
 
@@ -106,8 +102,8 @@ yields-choose {A} {k} {P} x (also {s} {m} {es} e rest) = go (same x (ascii s)) (
     go false t = t
 
 -- one byte holds no more than the length of a name may be
-name-within : (b : Bytes) → All IsByte b → length b ≡ name-width → number-of b ≤ name-limit
-unfolding number-of number-after
+name-within : (b : Bytes) → Each IsByte b → length b ≡ name-width → number-of b ≤ name-limit
+unfolding Each number-of number-after
 name-within [] s q = absurd (omega arith)
 name-within (x ∷ []) s q = omega (arith, s .0)
 name-within (x ∷ y ∷ b) s q = absurd (omega arith)
@@ -127,7 +123,7 @@ module _ {k : ℕ} where
   unfolding note
   yields-note = record { yields = λ c i b j q x h. (tt, rw (← same-input h) x) }
 
-  yields-bytes : (n : ℕ) → Yields k (λ l. All IsByte l × (length l ≡ n)) (bytes n)
+  yields-bytes : (n : ℕ) → Yields k (λ l. Each IsByte l × (length l ≡ n)) (bytes n)
   unfolding bytes
   yields-bytes n = yields-times n yields-next
 
@@ -236,18 +232,18 @@ HelperWithin k h = HelperFields h × (helper-lambda-depth h ≤ k)
 abbrev pub FormWithin : ℕ → Form → Type 0
 FormWithin k f = FormFields f × (form-lambda-depth f ≤ k)
 
-bodies-within : {k : ℕ} (l : List Body) → All (BodyWithin k) l → BodiesFields (to-bodies l) × (bodies-lambda-depth (to-bodies l) ≤ k)
-unfolding to-bodies BodiesFields bodies-lambda-depth
+bodies-within : {k : ℕ} (l : List Body) → Each (BodyWithin k) l → BodiesFields (to-bodies l) × (bodies-lambda-depth (to-bodies l) ≤ k)
+unfolding Each to-bodies BodiesFields bodies-lambda-depth
 bodies-within [] s = (tt, omega arith)
 bodies-within (b ∷ l) s = let t = bodies-within l (s .1) in ((s .0 .0, t .0), omega (arith, s .0 .1, t .1))
 
-bindings-within : {k : ℕ} (l : List Binding) → All (BindingWithin k) l → BindingsFields (to-bindings l) × (bindings-lambda-depth (to-bindings l) ≤ k)
-unfolding to-bindings BindingsFields bindings-lambda-depth
+bindings-within : {k : ℕ} (l : List Binding) → Each (BindingWithin k) l → BindingsFields (to-bindings l) × (bindings-lambda-depth (to-bindings l) ≤ k)
+unfolding Each to-bindings BindingsFields bindings-lambda-depth
 bindings-within [] s = (tt, omega arith)
 bindings-within (b ∷ l) s = let t = bindings-within l (s .1) in ((s .0 .0, t .0), omega (arith, s .0 .1, t .1))
 
-helpers-within : {k : ℕ} (l : List Helper) → All (HelperWithin k) l → HelpersFields (to-helpers l) × (helpers-lambda-depth (to-helpers l) ≤ k)
-unfolding to-helpers HelpersFields helpers-lambda-depth
+helpers-within : {k : ℕ} (l : List Helper) → Each (HelperWithin k) l → HelpersFields (to-helpers l) × (helpers-lambda-depth (to-helpers l) ≤ k)
+unfolding Each to-helpers HelpersFields helpers-lambda-depth
 helpers-within [] s = (tt, omega arith)
 helpers-within (b ∷ l) s = let t = helpers-within l (s .1) in ((s .0 .0, t .0), omega (arith, s .0 .1, t .1))
 

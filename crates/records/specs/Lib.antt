@@ -1,5 +1,6 @@
 pub mod Limits
 pub mod Records
+pub mod Lists
 pub mod Sexps
 pub mod Read
 pub mod Opened

@@ -8,11 +8,12 @@ use Rattle.names.specs.Names.{Bytes}
 use Rattle.names.specs.Segments.{At}
 use Rattle.records.specs.Depth.{bodies-depth, bindings-depth, helpers-depth}
 use Rattle.records.specs.Limits.{level-limit, lambda-limit}
-use Rattle.records.specs.Records.{Bodies, []ᵇ, _∷ᵇ_, bodies-bytes, bodies-count, Bindings, []ᵍ, _∷ᵍ_, bindings-bytes, bindings-count, Helpers, []ʰ, _∷ʰ_, helpers-bytes, helpers-count}
+use Rattle.records.specs.Records.{list-of, binding-bytes, Bodies, []ᵇ, _∷ᵇ_, bodies-bytes, bodies-count, Bindings, []ᵍ, _∷ᵍ_, bindings-bytes, bindings-count, Helpers, []ʰ, _∷ʰ_, helpers-bytes, helpers-count}
 use Rattle.records.specs.Valid.{BodiesFields, BindingsFields, HelpersFields, bodies-lambda-depth, bindings-lambda-depth, helpers-lambda-depth}
 use Rattle.records.specs.declared.Family.the-variants.{Body as a-body, Binding as a-binding, Helper as a-helper}
 use Rattle.views.specs.Count.{body-records, bodies-records, binding-records, bindings-records, helper-records, helpers-records, total}
-use Rattle.views.specs.Parts.{Part, Past, list-part, family-part, joined, Each, bodies-part, bindings-part, helpers-part}
+use Rattle.records.specs.Lists.{joined, Each}
+use Rattle.views.specs.Parts.{ValidBinding, Part, Past, list-part, family-part, bodies-part, bindings-part, helpers-part}
 
 -- trees as a list: as many, each meant, with the same bytes and, by f, with k records
 pub record Listed (p : Part) (f : p .0 → ℕ) (n : ℕ) (bs : Bytes) (k : ℕ) : Type 0 where
@@ -58,3 +59,19 @@ module _ {s : Bytes} {at r n : ℕ} where
 
   pub past-helpers : Past (list-part (family-part a-helper) n) s at r → Past (helpers-part n) s at r
   past-helpers x = record { within = x .within; onward = x .onward; past = λ hs v a. past-listed x (listed-helpers hs (v .1) (v .2) (v .3)) (v .0) a }
+
+-- the bindings of a let as a list
+pub list-count : (bs : Bindings) → length (list-of bs) ≡ bindings-count bs
+unfolding list-of bindings-count
+list-count []ᵍ = refl
+list-count (b ∷ᵍ bs) = ap suc (list-count bs)
+
+pub list-bytes : (bs : Bindings) → joined binding-bytes (list-of bs) ≡ bindings-bytes bs
+unfolding list-of joined bindings-bytes
+list-bytes []ᵍ = refl
+list-bytes (b ∷ᵍ bs) = ap (λ (x : Bytes). binding-bytes b ++ x) (list-bytes bs)
+
+pub list-valid : (bs : Bindings) → BindingsFields bs → bindings-depth bs ≤ level-limit → bindings-lambda-depth bs ≤ lambda-limit → Each ValidBinding (list-of bs)
+unfolding list-of Each BindingsFields bindings-depth bindings-lambda-depth
+list-valid []ᵍ v d k = tt
+list-valid (b ∷ᵍ bs) v d k = ((v .0, omega arith, omega arith), list-valid bs (v .1) (omega arith) (omega arith))

@@ -19,7 +19,8 @@ use Rattle.records.specs.Scan.{scan-of, input-at, reader-of, outermost, first-s
 use Rattle.records.proofs.Complete.{context, Reads, Quiet, complete-readers, reads-binding, reads-sexp}
 use Rattle.records.proofs.Exact.{Exact}
 use Rattle.records.proofs.Scans.{going}
-use Rattle.views.specs.Parts.{Part, family-part, sexp-part, fixed-part, joined, Each, Skips, Past, from-place}
+use Rattle.records.specs.Lists.{joined, Each}
+use Rattle.views.specs.Parts.{Part, family-part, sexp-part, fixed-part, Skips, Past, from-place}
 use Rattle.names.proofs.Places.{at-left, at-right}
 use Rattle.views.proofs.Places.{at-split, at-start}
 

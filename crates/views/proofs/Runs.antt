@@ -12,7 +12,8 @@ use Rattle.names.proofs.Places.{at-left, at-right, at-place, at-into-drop}
 use Rattle.records.specs.Records.{byte}
 use Rattle.views.specs.declared.Counted.{Counted}
 use Rattle.views.specs.Count.{total, no-records, many-part, Counts, Begun, Adds}
-use Rattle.views.specs.Parts.{Part, fixed-part, Past, joined, Each}
+use Rattle.records.specs.Lists.{joined, Each}
+use Rattle.views.specs.Parts.{Part, fixed-part, Past}
 use Rattle.views.specs.Views.{mark-width}
 use Rattle.views.proofs.Lists.{Listed}
 

@@ -12,7 +12,8 @@ use Rattle.records.specs.Depth.{tail-depth}
 use Rattle.records.specs.Limits.{level-limit, lambda-limit}
 use Rattle.records.specs.Records.{byte, Sexp, SN, SC, SI, SQ, SA, Pattern, Name, Complex, Body, BL, BQ, BV, BC, BM, BF, Bodies, []ᵇ, _∷ᵇ_, Tail, no-tail, tail, tail-bytes, Binding, BB, Bindings, []ᵍ, _∷ᵍ_, Helper, HC, HM, HD, HN, HR, Helpers, []ʰ, _∷ʰ_, Form, CF}
 use Rattle.records.specs.Valid.{ValidName, ValidRaw, TailFields, tail-lambda-depth}
-use Rattle.views.specs.Parts.{Part, family-part, joined, Each}
+use Rattle.records.specs.Lists.{joined, Each}
+use Rattle.views.specs.Parts.{Part, family-part}
 use Rattle.views.specs.declared.Counted.{Counted}
 
 -- the records of an S record, itself among them

@@ -1,7 +1,7 @@
 -- What can be stepped over: the trees of each kind, their bytes, and which of them are within the format's limits.
 -- Assumes nothing.
 use mathlib.Core.Path.{_≡_}
-use mathlib.Core.List.{List, [], _∷_, _++_}
+use mathlib.Core.List.{List, _++_}
 use Prim.Native.Nat.{ℕ, _+_, _≤_}
 use lib.ListN.{length}
 use Rattle.names.specs.Names.{Bytes, name-field}
@@ -10,6 +10,7 @@ use Rattle.records.specs.declared.Family.{Family}
 use Rattle.records.specs.declared.Family.the-variants.{Body as a-body, Binding as a-binding, Helper as a-helper, Form as a-form}
 use Rattle.records.specs.declared.Scan.{Scan}
 use Rattle.records.specs.Depth.{bodies-depth, binding-depth, bindings-depth, helpers-depth}
+use Rattle.records.specs.Lists.{joined, Each}
 use Rattle.records.specs.Limits.{level-limit, lambda-limit}
 use Rattle.records.specs.Records.{integer-field, Sexp, sexp-bytes, Pattern, pattern-field, Body, body-bytes, Bodies, bodies-bytes, bodies-count, Binding, binding-bytes, Bindings, bindings-bytes, bindings-count, Helper, helper-bytes, Helpers, helpers-bytes, helpers-count, Form, form-bytes}
 use Rattle.records.specs.Valid.{ValidName, ValidInteger, ValidRaw, ValidKeyword, ValidHint, ValidSexp, ValidPattern, BodiesFields, BindingFields, BindingsFields, HelpersFields, bodies-lambda-depth, binding-lambda-depth, bindings-lambda-depth, helpers-lambda-depth, ValidBody, ValidHelper, ValidForm}
@@ -54,16 +55,6 @@ hint-part = (Bytes, (λ x. x), ValidHint)
 
 abbrev pub pattern-part : Part
 pattern-part = (Pattern, pattern-field, ValidPattern)
-
--- the bytes of trees one after the other
-unfoldable pub joined : {A : Type 0} → (A → Bytes) → List A → Bytes
-joined f [] = []
-joined f (t ∷ ts) = f t ++ joined f ts
-
--- each is meant
-unfoldable pub Each : {A : Type 0} → (A → Type 0) → List A → Type 0
-Each P [] = Unit {0}
-Each P (t ∷ ts) = P t × Each P ts
 
 -- n of them, one after the other
 abbrev pub list-part : Part → ℕ → Part

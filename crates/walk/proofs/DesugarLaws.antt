@@ -12,15 +12,16 @@ use Rattle.names.proofs.Parts.{into, part, back, part-length, same-back}
 use Rattle.names.proofs.Places.{at-whole, at-own, at-place, at-is, at-left, at-right}
 use Rattle.names.proofs.Segments.{filled-then}
 use Rattle.records.specs.Answer.{Gives, gave, refused}
-use Rattle.records.specs.Depth.{depth, bindings-depth}
-use Rattle.records.specs.Limits.{level-limit, lambda-limit}
-use Rattle.records.specs.Records.{Loc, Parallel, Sequential, Pattern, Body, BL, BQ, BV, BC, BM, BF, Binding, BB, Bindings, []ᵍ, _∷ᵍ_, byte, kind-field, list-of, loc-width, pattern-field, body-bytes, binding-bytes, bindings-bytes, bindings-count, record-bytes}
-use Rattle.records.specs.Valid.{ValidLoc, BodyFields, BindingFields, BindingsFields, lambda-depth, bindings-lambda-depth, ValidBody, IsLet}
+use Rattle.records.specs.Depth.{depth}
+use Rattle.records.specs.Records.{Loc, Parallel, Sequential, Pattern, Body, BL, BQ, BV, BC, BM, BF, Binding, BB, []ᵍ, _∷ᵍ_, byte, kind-field, list-of, loc-width, pattern-field, body-bytes, binding-bytes, bindings-bytes, bindings-count, record-bytes}
+use Rattle.records.specs.Valid.{ValidLoc, BodyFields, BindingFields, lambda-depth, ValidBody, IsLet}
 use Rattle.records.specs.declared.Family.the-variants.{Binding as a-binding}
 use Rattle.records.specs.declared.Step.{Step}
 use Rattle.records.specs.declared.Step.the-variants.{Done, Refused}
 use Rattle.records.proofs.Answers.{made, unmade, gives-back}
-use Rattle.views.specs.Parts.{Skips, family-part, ValidBinding, joined, Each}
+use Rattle.records.specs.Lists.{joined, Each}
+use Rattle.views.specs.Parts.{Skips, family-part, ValidBinding}
+use Rattle.views.proofs.Lists.{list-count, list-bytes, list-valid}
 use Rattle.views.specs.Views.{mark-width, SeesLet}
 use Rattle.views.specs.declared.LetView.{LetView}
 use Rattle.substitution.specs.Arena.{head-width, fitting}
@@ -28,7 +29,6 @@ use Rattle.walk.specs.Bodyforms.{desugar-sequential-let-bindings}
 use Rattle.walk.specs.Leaves.{BodyAtStart, KeepsBody, Desugars, desugared, left-bytes, LetsLeft, Nests, let-head, let-of}
 use Rattle.substitution.proofs.Fits.{Headed, done-is, whole, headed-refused, headed-done, read-wrote}
 use Rattle.walk.proofs.LeafLaws.{skipped}
-use Rattle.walk.proofs.Sizes.{count-list-of}
 use Rattle.substitution.proofs.Substitutes.{fitting-long}
 
 -- the bytes of a let of one binding before its body, of its L and the binding's bytes
@@ -223,17 +223,6 @@ module _ (c : ℕ) {mem a y : Bytes} {left free f n : ℕ} {r : Step} (sk : Skip
             (headed-done (v .parts (inner e v)) free f c le (part-gives e v) i j d q (written e v) (nested-sums e v i j d q .0));
       }
 
--- the bindings of a let as a list
-joined-list : (bs : Bindings) → joined binding-bytes (list-of bs) ≡ bindings-bytes bs
-unfolding joined list-of bindings-bytes
-joined-list []ᵍ = refl
-joined-list (b ∷ᵍ bs) = ap (λ (y : Bytes). binding-bytes b ++ y) (joined-list bs)
-
-each-list : (bs : Bindings) → BindingsFields bs → bindings-depth bs ≤ level-limit → bindings-lambda-depth bs ≤ lambda-limit → Each ValidBinding (list-of bs)
-unfolding Each list-of BindingsFields bindings-depth bindings-lambda-depth
-each-list []ᵍ v d k = tt
-each-list (b ∷ᵍ bs) v d k = ((v .0, omega arith, omega arith), each-list bs (v .1) (omega arith) (omega arith))
-
 -- a let at the start: its bindings and its body, and what it is desugared to
 pub record Let (mem : Bytes) (v : LetView) (t : Body) : Type 0 where
   pub bs : List Binding
@@ -250,14 +239,14 @@ unfolding IsLet BodyFields depth lambda-depth flatten desugared
 let-of-view {mem} {v} x (BL k l w h bs b) i f a =
     let c = x .closes k l w h bs b f a in
     let e : bindings-bytes bs ++ (body-bytes b ++ []) ≡ left-bytes (list-of bs) b =
-    ap (λ (y : Bytes). bindings-bytes bs ++ y) (append-nil (body-bytes b)) ∙ ap (λ (y : Bytes). y ++ body-bytes b) (sym (joined-list bs)) in
+    ap (λ (y : Bytes). bindings-bytes bs ++ y) (append-nil (body-bytes b)) ∙ ap (λ (y : Bytes). y ++ body-bytes b) (sym (list-bytes bs)) in
     record {
       bs = list-of bs;
       b = b;
       is = refl;
-      count = sym (x .sees k l w h bs b f a .count ∙ count-list-of bs);
+      count = sym (x .sees k l w h bs b f a .count ∙ sym (list-count bs));
       size = omega (arith, c .whole, ap length e);
-      bindings = each-list bs (f .0 .4) (omega arith) (omega arith);
+      bindings = list-valid bs (f .0 .4) (omega arith) (omega arith);
       body = (f .0 .5, omega arith, omega arith);
       there = subst (At mem (v .first)) e (c .there .there);
     }

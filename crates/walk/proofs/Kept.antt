@@ -20,8 +20,9 @@ use Rattle.records.specs.Valid.{ValidLoc, ValidName, ValidKeyword, ValidHint, V
 use Rattle.substitution.specs.RenameInCons.{requote, rename-in-cons, rename-in-qq, only-in-cons, only-in-qq, rename-atom}
 use Rattle.walk.specs.Bodyforms.{desugar-sequential-let-bindings}
 use Rattle.substitution.proofs.Views.{valid-loc-of}
+use Rattle.records.proofs.Exact.{bindings-counted}
+use Rattle.views.proofs.Lists.{list-count}
 use Rattle.walk.proofs.All.{All, all-none, all-cons}
-use Rattle.walk.proofs.Sizes.{count-to-bindings, count-list-of}
 
 -- every new name of a map is within its limit
 abbrev pub Named : NameMap → Type 0
@@ -196,7 +197,7 @@ module _ {x : Kind} {z : Zone} {k : ℕ} {l : Loc} {w h : Bytes} {b : Body} wher
     loc = p .fields .0;
     keyword = p .fields .1;
     hint = p .fields .2;
-    count = omega (arith, p .fields .3, count-list-of bs);
+    count = omega (arith, p .fields .3, list-count bs);
     bindings = kept-list-of bs (record { fields = p .fields .4; lambdas = omega arith; clear = p .clear .0 });
     body = record { fields = p .fields .5; lambdas = omega arith; clear = p .clear .1 };
   }
@@ -206,7 +207,7 @@ module _ {x : Kind} {z : Zone} {k : ℕ} {l : Loc} {w h : Bytes} {b : Body} wher
   let-kept {bs} p =
       let q = kept-to-bindings (p .bindings) in
       record {
-        fields = (p .loc, p .keyword, p .hint, omega (arith, p .count, count-to-bindings bs), q .fields, p .body .fields);
+        fields = (p .loc, p .keyword, p .hint, omega (arith, p .count, bindings-counted bs), q .fields, p .body .fields);
         lambdas = omega arith;
         clear = (q .clear, p .body .clear);
       }

@@ -2,7 +2,7 @@
 -- never runs out of fuel), draws
 -- at most n times 2 to the d numbers, and gives back a record no deeper and with no more atoms. So no call runs out of fuel, and each moves the
 -- counter by at most 2 to the 46. Assumes nothing.
-use mathlib.Core.Path.{_≡_, refl, ap, sym, _∙_}
+use mathlib.Core.Path.{_≡_, refl, ap, _∙_}
 use mathlib.Core.Logic.{_⊎_, inl, inr}
 use mathlib.Core.Bool.{Bool, true, false}
 use mathlib.Core.List.{List, [], _∷_, _++_, List·Memᴰ·head, List·Memᴰ·tail, List·Memᴰ·not-nil}
@@ -20,7 +20,7 @@ use Rattle.records.specs.Opened.{Opened, opened, closed, open-input}
 use Rattle.records.specs.Read.{Reader, read-whole, readers, whole}
 use Rattle.records.specs.Records.{Loc, loc-number, Sexp, SN, SC, SI, SQ, SA, Parallel, Sequential, Assign, Pattern, Name, Complex, Body, BL, BQ, BV, BC, BM, BF, Bodies, []ᵇ, _∷ᵇ_, Tail, no-tail, tail, Binding, BB, Helper, HC, HM, HD, HN, HR, Helpers, []ʰ, _∷ʰ_, Form, CF, list-of, bindings-count, form-bytes, helper-bytes}
 use Rattle.records.proofs.Depth.{form-deep, helper-deep}
-use Rattle.records.proofs.Exact.{form-read-back, helper-read-back}
+use Rattle.records.proofs.Exact.{form-read-back, helper-read-back, bindings-counted}
 use Rattle.records.proofs.Readers.{Any}
 use Rattle.records.proofs.Opened.{OpenedFrom, Start, start}
 use Rattle.ordering.specs.Lawful.{_is-in_}
@@ -32,8 +32,9 @@ use Rattle.walk.specs.Patterns.{make-binding-unique, make-bindings-uniqu
 use Rattle.walk.specs.Bodyforms.{desugar-sequential-let-bindings, each-body, call-tail, each-binding-body, Rules, args-then-in, rename-args-let, rename-args-desugared, rename-args-sequential, rename-assign-binding, rename-assign-bindings, rename-args-ordered, rename-args-assign, rename-args-bodyform, in-elements, rename-in-bodyform, body-rules, walk, log-assign, logged, no-binding}
 use Rattle.walk.specs.Helperforms.{FormRules, each-helper, further-helpers, rename-args-helperform, rename-in-helperform, rename-args-compileform, rename-in-compileform, rename-children-compileform, form-rules, form-walk, whole-walk, children-walk, helper-walk}
 use Rattle.walk.specs.Calls.{visits, answered, rename-call, visits-of, whole-call, children-call, helper-call, whole-visits, children-visits, helper-visits}
+use Rattle.views.proofs.Lists.{list-count}
 use Rattle.walk.proofs.All.{All, all-none, all-cons, all-append, all-map, all-in}
-use Rattle.walk.proofs.Sizes.{dbl, dbl-add, dbl-mono, dbl-least, dbl-twice, sum-at, order-below, order-sum, depth-to-bindings, count-to-bindings, depth-list-of, count-list-of, depth-desugar, positive, pick-depth, atoms-desugar, some-level, helper-positive, form-positive}
+use Rattle.walk.proofs.Sizes.{dbl, dbl-add, dbl-mono, dbl-least, dbl-twice, sum-at, order-below, order-sum, depth-to-bindings, depth-list-of, depth-desugar, positive, pick-depth, atoms-desugar, some-level, helper-positive, form-positive}
 use Rattle.walk.proofs.Atoms.{sexp-atoms, pattern-atoms, atoms, bodies-atoms, tail-atoms, binding-atoms, bindings-atoms, helper-atoms, helpers-atoms, form-atoms, patterns-of, inside-of, list-atoms, list-parts, atoms-to-bindings, atoms-list-of, most-cons, few-form, few-helper}
 
 abbrev pub Below : ℕ → Visit → Type 0
@@ -290,8 +291,8 @@ module _ (F : ℕ) where
         (runs-rename-args-let l k h (list-of bs) b (omega (arith, depth-list-of bs)) (omega arith))
     runs-rename-args-bodyform (BL Sequential l k h bs b) z =
         runs-weaken (dbl-mono (suc d) _ _ (omega (arith, atoms-list-of bs, list-parts (list-of bs))))
-        (λ a q. (omega (arith, depth-list-of bs, count-list-of bs), omega (arith, atoms-list-of bs, list-parts (list-of bs))))
-        (runs-rename-args-sequential (list-of bs) b (omega (arith, depth-list-of bs, count-list-of bs)))
+        (λ a q. (omega (arith, depth-list-of bs, list-count bs), omega (arith, atoms-list-of bs, list-parts (list-of bs))))
+        (runs-rename-args-sequential (list-of bs) b (omega (arith, depth-list-of bs, list-count bs)))
     runs-rename-args-bodyform (BL Assign l k h bs b) z =
         runs-weaken (dbl-mono (suc d) _ _ (omega (arith, atoms-list-of bs))) (λ a q. (omega (arith, depth-list-of bs), omega (arith, atoms-list-of bs)))
         (runs-rename-args-assign l k h (list-of bs) b (omega (arith, depth-list-of bs)) (omega arith))
@@ -325,7 +326,7 @@ module _ (F : ℕ) where
         runs-more (omega (arith, dbl-twice d (bindings-atoms bs + y), dbl-add d (bindings-atoms bs) y, dbl-mono d x (bindings-atoms bs) (omega (arith, atoms-list-of bs, list-parts (list-of bs)))))
         (runs-bind (runs-each-binding-body d (s .in-bodyform m) (list-of bs) (omega (arith, depth-list-of bs))) λ bs′ e. runs-bind (runs-child _ (s .in-bodyform m b (omega arith))) λ b′ q.
         runs-ret {n = 0} _ (
-          omega (arith, depth-list-of bs, depth-to-bindings bs′, e .deep, ap (levels k) (count-to-bindings bs′ ∙ e .long ∙ sym (count-list-of bs))),
+          omega (arith, depth-list-of bs, depth-to-bindings bs′, e .deep, ap (levels k) (bindings-counted bs′ ∙ e .long ∙ list-count bs)),
           omega (arith, atoms-list-of bs, list-parts (list-of bs), atoms-to-bindings bs′, list-parts bs′, e .patterns, e .inside),
         ))
     runs-rename-in-bodyform m (BQ x) z = runs-ret _ (omega arith, omega arith)

@@ -103,20 +103,10 @@ unfolding bindings-depth to-bindings list-depth
 depth-to-bindings [] = refl
 depth-to-bindings (b ∷ bs) = ap (λ (n : ℕ). max (binding-depth b) n) (depth-to-bindings bs)
 
-pub count-to-bindings : (l : List Binding) → bindings-count (to-bindings l) ≡ length l
-unfolding bindings-count to-bindings
-count-to-bindings [] = refl
-count-to-bindings (b ∷ bs) = ap suc (count-to-bindings bs)
-
 pub depth-list-of : (bs : Bindings) → bindings-depth bs ≡ list-depth (list-of bs)
 unfolding bindings-depth list-of list-depth
 depth-list-of []ᵍ = refl
 depth-list-of (b ∷ᵍ bs) = ap (λ (n : ℕ). max (binding-depth b) n) (depth-list-of bs)
-
-pub count-list-of : (bs : Bindings) → bindings-count bs ≡ length (list-of bs)
-unfolding bindings-count list-of
-count-list-of []ᵍ = refl
-count-list-of (b ∷ᵍ bs) = ap suc (count-list-of bs)
 
 pub depth-desugar : (bs : List Binding) (b : Body) → depth (desugar-sequential-let-bindings bs b) ≤ length bs + max (list-depth bs) (depth b)
 unfolding desugar-sequential-let-bindings list-depth depth levels bindings-count

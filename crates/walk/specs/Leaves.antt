@@ -12,7 +12,8 @@ use Rattle.records.specs.Answer.{Gives, Answers}
 use Rattle.records.specs.Records.{Parallel, Sequential, Body, BL, BQ, BV, BC, BM, BF, Binding, byte, kind-field, list-of, loc-width, body-bytes, binding-bytes}
 use Rattle.records.specs.Valid.{ValidBody, IsLet}
 use Rattle.records.specs.declared.Step.{Step}
-use Rattle.views.specs.Parts.{ValidBinding, joined, Each}
+use Rattle.records.specs.Lists.{joined, Each}
+use Rattle.views.specs.Parts.{ValidBinding}
 use Rattle.views.specs.Views.{mark-width}
 use Rattle.substitution.specs.Arena.{MapAt, fitting, outcome}
 use Rattle.walk.specs.Bodyforms.{Rules, body-rules, desugar-sequential-let-bindings}

@@ -8,8 +8,6 @@ use Rattle.records.proofs.Opened.{within-limits}
 use Rattle.records.proofs.InputLaws.{came, exact-wanted, open-limits, open-long, open-refused-as, open-number, open-left, open-mod, open-accepted}
 use Rattle.records.proofs.input.open_input.Statement.{statement}
 use Rattle.records.proofs.input.open_input.Tie as tie
-use Rattle.records.proofs.input.open_input.Lts as lts
-use Rattle.records.proofs.input.open_input.Reads as reads
 
 returns : tie.Need-returns
 returns c = sym (open-limits (wanted-reader (c .before .before .before .args .wanted) .1) _ _ _ _ (sym (c .before .within .ensures) ∙ not-true _ (c .if1 .taken)))

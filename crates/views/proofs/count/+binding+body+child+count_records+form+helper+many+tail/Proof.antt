@@ -8,7 +8,8 @@ use lib.ListN.{length}
 use Rattle.names.specs.Segments.{At}
 use Rattle.records.specs.Records.{byte}
 use Rattle.views.specs.Count.{family-records, total, Begun}
-use Rattle.views.specs.Parts.{family-part, joined, Each}
+use Rattle.records.specs.Lists.{joined, Each}
+use Rattle.views.specs.Parts.{family-part}
 use Rattle.views.proofs.Runs.{begun-past, child-adds, Rest, rest-first, rest-step, rest-none}
 use Rattle.views.proofs.CountLaws.{BodyOf, HelperOf, family-long, too-few, no-tail-adds, tail-adds, body-counts, let-told, quote-told, value-told, call-told, mod-told, lambda-told, no-body, binding-told, helper-counts, constant-told, macro-told, function-told, namespace-told, reference-told, no-helper, form-told}
 use borrow.Fn.Kinds.{In}
