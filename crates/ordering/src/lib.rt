@@ -2,6 +2,8 @@
 //
 // `provides` says which bindings provide a name, `needs` what a body needs, `sort` has the exact
 // order over needs, `assign` the order of an assign's bindings, and `call` the call Order.
+use records::COUNT_LIMIT;
+
 pub mod assign;
 pub mod call;
 pub mod needs;
@@ -9,7 +11,7 @@ pub mod provides;
 pub mod sort;
 
 // The most bindings of an assign.
-pub const BINDING_LIMIT: usize = 64;
+pub const BINDING_LIMIT: usize = COUNT_LIMIT as usize;
 
 // More than every place in a record.
 pub const PLACES: usize = 65536;

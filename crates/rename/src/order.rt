@@ -12,6 +12,7 @@ use ordering::BINDING_LIMIT;
 use ordering::NEED_LIMIT;
 use ordering::assign::find_names;
 use ordering::call::order_call;
+use records::COUNT_LIMIT;
 use records::MOST_LONGEST;
 use records::Opening;
 use records::WORK_FACTOR;
@@ -108,7 +109,7 @@ fn bits_of(row: &[u8]) -> u64 {
     let mut bits = 0;
     let mut k = 0;
     while k < row.len() {
-        if row[k] < 64 {
+        if row[k] < COUNT_LIMIT {
             bits |= 1u64 << row[k];
         }
         k += 1;
