@@ -1,6 +1,6 @@
 -- The plan of an SC by the word at its head. Assumes nothing.
 use mathlib.Core.Path.{_≡_, refl, sym, ap, subst, _∙_}
-use mathlib.Core.Bool.{Bool, true, false, _&&_}
+use mathlib.Core.Bool.{Bool, true, false, not, _&&_}
 use mathlib.Core.Option.{Option, none, some}
 use native.Mathlib.Omega.{arith}
 use Prim.Native.Nat.{ℕ, _+_, _-_, _≤_}
@@ -15,22 +15,19 @@ use Rattle.records.specs.Records.{Loc, Sexp, SN, SC, SI, SQ, SA, sexp-bytes}
 use Rattle.records.specs.Sexps.{nilp, loc-of, is-atom, only}
 use Rattle.records.specs.Valid.{SexpFields}
 use Rattle.substitution.specs.Arena.{head-width, Measures}
-use Rattle.substitution.specs.Plans.{HeadAt, IsAtom, OnePlan, plan-none, plan-one, WithOne, Planned, keeps, quotes, goes-alone, goes-on, PlansPair}
+use Rattle.substitution.specs.Plans.{substitution, Lone, HeadAt, IsAtom, SingleAt, single-none, single-one, Singles, keeps, quotes, goes-alone, goes-on, PlansPair}
 use Rattle.substitution.specs.RenameInCons.{requote, rename-in-cons, rename-in-qq, only-in-cons, only-in-qq}
-use Rattle.substitution.specs.declared.Plan.{Plan}
+use Rattle.substitution.specs.declared.Plan.the-variants.{Kept, Requoted, Alone, Parts}
 use Rattle.substitution.proofs.Pairs.{cons, cons-length}
 
--- the word at the head
-pub head-word : {s word : Bytes} {n : ℕ} {r : Bool} → HeadAt s n → IsAtom (part s n (length s - n)) word r → (w : String) → word ≡ ascii w → (l : Loc) (h u : Sexp) → SexpFields (SC l h u) → At s 0 (sexp-bytes (SC l h u)) → r ≡ is-atom w h
-head-word {n = n} hd x w e l h u fine a = let v = cons l h u fine a in x .is w e h (v .fields-h) (into (at-place n (sym (hd .is l h u fine a)) (v .left)))
-
--- the element of the tail
+-- the element behind the head
 pub record Element (s : Bytes) (h : Sexp) (x : Sexp) (n : ℕ) : Type 0 where
   pub fields : SexpFields x
   pub there : At s (head-width + length (sexp-bytes h) + head-width) (sexp-bytes x)
   pub within : head-width + length (sexp-bytes h) + head-width + length (sexp-bytes x) ≤ n
 
-pub element : {s : Bytes} (l : Loc) (h : Sexp) (k : Loc) (x z : Sexp) → SexpFields (SC l h (SC k x z)) → At s 0 (sexp-bytes (SC l h (SC k x z))) → Element s h x (length (sexp-bytes (SC l h (SC k x z))))
+pub element : {s : Bytes} (l : Loc) (h : Sexp) (k : Loc) (x z : Sexp) → SexpFields (SC l h (SC k x z)) → At s 0 (sexp-bytes (SC l h (SC k x z)))
+    → Element s h x (length (sexp-bytes (SC l h (SC k x z))))
 element {s} l h k x z w a =
     let v = cons l h (SC k x z) w a in
     let i = cons k x z (v .fields-u) (into (v .right)) in
@@ -47,22 +44,25 @@ module _ (qq : Bool) (m : NameMap) where
   none-in-cons (SN l) e = refl
   none-in-cons (SC l x t) e = go (nilp t) e
     where
-      go : (b : Bool) → _≡_ {A = Option Sexp} (elim b [ true ↦ some x | false ↦ none ]) none → _≡_ {A = Option Sexp} (elim b [ true ↦ some (rename-in-cons qq m x) | false ↦ none ]) none
+      go : (b : Bool) → _≡_ {A = Option Sexp} (elim b [ true ↦ some x | false ↦ none ]) none
+          → _≡_ {A = Option Sexp} (elim b [ true ↦ some (rename-in-cons qq m x) | false ↦ none ]) none
       go true q = let z : _≡_ {A = ℕ} 0 1 = cc in absurd (omega arith)
       go false q = refl
   none-in-cons (SI l v) e = refl
   none-in-cons (SQ l q n) e = refl
   none-in-cons (SA l n) e = refl
 
-  pub qq-on : (l : Loc) (h u : Sexp) → is-atom "unquote" h ≡ false → rename-in-qq qq m (SC l h u) ≡ SC l (rename-in-qq qq m h) (rename-in-qq qq m u)
+  qq-on : (l : Loc) (h u : Sexp) → is-atom "unquote" h ≡ false → rename-in-qq qq m (SC l h u) ≡ SC l (rename-in-qq qq m h) (rename-in-qq qq m u)
   unfolding rename-in-qq
   qq-on l h u e = rw (e, rename-in-qq)
 
-  pub qq-none : (l : Loc) (h u : Sexp) → is-atom "unquote" h ≡ true → only u ≡ none → rename-in-qq qq m (SC l h u) ≡ SC l (rename-in-qq qq m h) (rename-in-qq qq m u)
+  qq-none : (l : Loc) (h u : Sexp) → is-atom "unquote" h ≡ true → only u ≡ none
+      → rename-in-qq qq m (SC l h u) ≡ SC l (rename-in-qq qq m h) (rename-in-qq qq m u)
   unfolding rename-in-qq
   qq-none l h u e n = rw (e, none-in-cons u n, rename-in-qq)
 
-  pub qq-one : (l : Loc) (h : Sexp) (k : Loc) (x z : Sexp) → is-atom "unquote" h ≡ true → nilp z ≡ true → rename-in-qq qq m (SC l h (SC k x z)) ≡ rename-in-cons qq m x
+  qq-one : (l : Loc) (h : Sexp) (k : Loc) (x z : Sexp) → is-atom "unquote" h ≡ true → nilp z ≡ true
+      → rename-in-qq qq m (SC l h (SC k x z)) ≡ rename-in-cons qq m x
   unfolding rename-in-qq only-in-cons
   qq-one l h k x z e n = rw (e, n, rename-in-qq, only-in-cons)
 
@@ -71,7 +71,8 @@ module _ (qq : Bool) (m : NameMap) where
   none-in-qq (SN l) e = refl
   none-in-qq (SC l x t) e = go (nilp t) e
     where
-      go : (b : Bool) → _≡_ {A = Option Sexp} (elim b [ true ↦ some x | false ↦ none ]) none → _≡_ {A = Option Sexp} (elim b [ true ↦ some (rename-in-qq qq m x) | false ↦ none ]) none
+      go : (b : Bool) → _≡_ {A = Option Sexp} (elim b [ true ↦ some x | false ↦ none ]) none
+          → _≡_ {A = Option Sexp} (elim b [ true ↦ some (rename-in-qq qq m x) | false ↦ none ]) none
       go true q = let z : _≡_ {A = ℕ} 0 1 = cc in absurd (omega arith)
       go false q = refl
   none-in-qq (SI l v) e = refl
@@ -79,72 +80,28 @@ module _ (qq : Bool) (m : NameMap) where
   none-in-qq (SA l n) e = refl
 
   -- neither `q` nor `quote`, nor a `qq` that is looked into
-  pub cons-on : (l : Loc) (h u : Sexp) → is-atom "q" h ≡ false → is-atom "quote" h ≡ false → (is-atom "qq" h && qq) ≡ false
+  cons-on : (l : Loc) (h u : Sexp) → is-atom "q" h ≡ false → is-atom "quote" h ≡ false → (is-atom "qq" h && qq) ≡ false
       → rename-in-cons qq m (SC l h u) ≡ SC l (rename-in-cons qq m h) (rename-in-cons qq m u)
   unfolding rename-in-cons
   cons-on l h u e₁ e₂ e₃ = rw (e₁, e₂, e₃, rename-in-cons)
 
-  pub cons-quote : (l : Loc) (h u : Sexp) → is-atom "q" h ≡ false → is-atom "quote" h ≡ true → rename-in-cons qq m (SC l h u) ≡ requote l h u
+  cons-quote : (l : Loc) (h u : Sexp) → is-atom "q" h ≡ false → is-atom "quote" h ≡ true → rename-in-cons qq m (SC l h u) ≡ requote l h u
   unfolding rename-in-cons
   cons-quote l h u e₁ e₂ = rw (e₁, e₂, rename-in-cons)
 
-  pub cons-qq-none : (l : Loc) (h u : Sexp) → is-atom "q" h ≡ false → is-atom "quote" h ≡ false → (is-atom "qq" h && qq) ≡ true → only u ≡ none → rename-in-cons qq m (SC l h u) ≡ SC l h u
+  cons-qq-none : (l : Loc) (h u : Sexp) → is-atom "q" h ≡ false → is-atom "quote" h ≡ false → (is-atom "qq" h && qq) ≡ true → only u ≡ none
+      → rename-in-cons qq m (SC l h u) ≡ SC l h u
   unfolding rename-in-cons
   cons-qq-none l h u e₁ e₂ e₃ n = rw (e₁, e₂, e₃, none-in-qq u n, rename-in-cons)
 
-  pub cons-qq-one : (l : Loc) (h : Sexp) (k : Loc) (x z : Sexp) → is-atom "q" h ≡ false → is-atom "quote" h ≡ false → (is-atom "qq" h && qq) ≡ true → nilp z ≡ true → rename-in-cons qq m (SC l h (SC k x z)) ≡ rename-in-qq qq m x
+  cons-qq-one : (l : Loc) (h : Sexp) (k : Loc) (x z : Sexp) → is-atom "q" h ≡ false → is-atom "quote" h ≡ false → (is-atom "qq" h && qq) ≡ true → nilp z ≡ true
+      → rename-in-cons qq m (SC l h (SC k x z)) ≡ rename-in-qq qq m x
   unfolding rename-in-cons only-in-qq
   cons-qq-one l h k x z e₁ e₂ e₃ n = rw (e₁, e₂, e₃, n, rename-in-cons, only-in-qq)
 
-  pub cons-q : (l : Loc) (h u : Sexp) → is-atom "q" h ≡ true → rename-in-cons qq m (SC l h u) ≡ SC l h u
+  cons-q : (l : Loc) (h u : Sexp) → is-atom "q" h ≡ true → rename-in-cons qq m (SC l h u) ≡ SC l h u
   unfolding rename-in-cons
   cons-q l h u e = rw (e, rename-in-cons)
-
--- the plans of an SC
-pub plans-q : {s word : Bytes} {n e : ℕ} {r qq : Bool} → HeadAt s n → IsAtom (part s n (length s - n)) word r → word ≡ ascii "q" → r ≡ true → Measures s e → PlansPair false qq s (record { way = 0; at = 0; end = e })
-plans-q {qq = qq} hd x w t k = record { pairs = λ l h u fine a. keeps refl (k .measures (SC l h u) fine a) (λ m. cons-q qq m l h u (sym (head-word hd x "q" w l h u fine a) ∙ t)) }
-
-pub plans-on : {s word : Bytes} {n : ℕ} {r qq : Bool} → HeadAt s n → IsAtom (part s n (length s - n)) word r → word ≡ ascii "unquote" → r ≡ false → PlansPair true qq s (record { way = 4; at = 0; end = 0 })
-plans-on {qq = qq} hd x w t =
-    record { pairs = λ l h u fine a. goes-on refl record { l = l; h = h; u = u; is = refl; rule = λ m. qq-on qq m l h u (sym (head-word hd x "unquote" w l h u fine a) ∙ t) } }
-
-pub plans-unquote : {s word : Bytes} {n : ℕ} {r qq : Bool} {p : Plan} → HeadAt s n → IsAtom (part s n (length s - n)) word r → word ≡ ascii "unquote" → r ≡ true
-    → WithOne s 3 (record { way = 4; at = 0; end = 0 }) p → PlansPair true qq s p
-unfolding SexpFields
-plans-unquote {s} {qq = qq} {p} hd x w t o = record { pairs = λ l h u fine a. go l h u fine a (o .ones l h u fine a) }
-  where
-    go : (l : Loc) (h u : Sexp) → SexpFields (SC l h u) → At s 0 (sexp-bytes (SC l h u)) → OnePlan 3 (record { way = 4; at = 0; end = 0 }) h u (length (sexp-bytes (SC l h u))) p → Planned true qq s p (SC l h u)
-    go l h u fine a (plan-none q e) = goes-on (ap (λ (y : Plan). y .way) e) record { l = l; h = h; u = u; is = refl; rule = λ m. qq-none qq m l h u (sym (head-word hd x "unquote" w l h u fine a) ∙ t) q }
-    go l h u fine a (plan-one k y z e nz way at end) = subst (λ (u′ : Sexp). Planned true qq s p (SC l h u′)) (sym e) (one l h k y z (subst (λ (u′ : Sexp). SexpFields (SC l h u′)) e fine) (subst (λ (u′ : Sexp). At s 0 (sexp-bytes (SC l h u′))) e a) nz way at (end ∙ ap (λ (u′ : Sexp). length (sexp-bytes (SC l h u′))) e))
-      where
-        one : (l : Loc) (h : Sexp) (k : Loc) (y z : Sexp) → SexpFields (SC l h (SC k y z)) → At s 0 (sexp-bytes (SC l h (SC k y z))) → nilp z ≡ true → p .way ≡ 3 → p .at ≡ head-width + length (sexp-bytes h) + head-width
-            → p .end ≡ length (sexp-bytes (SC l h (SC k y z))) → Planned true qq s p (SC l h (SC k y z))
-        one l h k y z fine a nz way at end =
-            let i = element l h k y z fine a in
-            goes-alone way end
-            record {
-              x = y;
-              fields = i .fields;
-              there = at-place (p .at) (sym at) (i .there);
-              moved = omega arith;
-              within = omega (arith, i .within);
-              rule = λ m. qq-one qq m l h k y z (sym (head-word hd x "unquote" w l h (SC k y z) fine a) ∙ t) nz;
-            }
-
-pub plans-go-on : {s : Bytes} {n : ℕ} {a₁ a₂ : Bytes} {r₁ r₂ qq : Bool} → HeadAt s n → IsAtom (part s n (length s - n)) a₁ r₁ → a₁ ≡ ascii "q" → r₁ ≡ false → IsAtom (part s n (length s - n)) a₂ r₂ → a₂ ≡ ascii "quote" → r₂ ≡ false
-    → ((l : Loc) (h u : Sexp) → SexpFields (SC l h u) → At s 0 (sexp-bytes (SC l h u)) → (is-atom "qq" h && qq) ≡ false) → PlansPair false qq s (record { way = 4; at = 0; end = 0 })
-plans-go-on {qq = qq} hd x w t y v z f =
-    record {
-      pairs = λ l h u fine a. goes-on refl
-          record { l = l; h = h; u = u; is = refl; rule = λ m. cons-on qq m l h u (sym (head-word hd x "q" w l h u fine a) ∙ t) (sym (head-word hd y "quote" v l h u fine a) ∙ z) (f l h u fine a) };
-    }
-
-pub and-false : (a b : Bool) → b ≡ false → (a && b) ≡ false
-and-false true b e = e
-and-false false b e = refl
-
-pub false-and : (a b : Bool) → a ≡ false → (a && b) ≡ false
-false-and a b e = ap (λ (x : Bool). x && b) e
 
 requote-none : (l : Loc) (h u : Sexp) → only u ≡ none → requote l h u ≡ SC l h u
 unfolding requote
@@ -154,47 +111,150 @@ requote-one : (l : Loc) (h : Sexp) (k : Loc) (x z : Sexp) → nilp z ≡ true �
 unfolding requote only
 requote-one l h k x z n = rw (n, requote, only)
 
-module _ {s a₁ a₂ : Bytes} {n e : ℕ} {r₁ r₂ qq : Bool} {p : Plan} (hd : HeadAt s n) (x₁ : IsAtom (part s n (length s - n)) a₁ r₁) (w₁ : a₁ ≡ ascii "q") (t₁ : r₁ ≡ false)
-    (x₂ : IsAtom (part s n (length s - n)) a₂ r₂) (w₂ : a₂ ≡ ascii "quote") (size : Measures s e) where
-  pub plans-quote : r₂ ≡ true → WithOne s 2 (record { way = 0; at = 0; end = e }) p → PlansPair false qq s p
-  plans-quote t₂ o = record { pairs = λ l h u fine a. go l h u fine a (o .ones l h u fine a) }
+-- whether the head of an SC at the start is the atom of this word; and whether it is a `qq` that is looked into
+abbrev pub Heads : Bytes → String → Bool → Type 0
+Heads s w r = (l : Loc) (h u : Sexp) → SexpFields (SC l h u) → At s 0 (sexp-bytes (SC l h u)) → is-atom w h ≡ r
+
+abbrev Looks : Bytes → Bool → Bool → Type 0
+Looks s qq r = (l : Loc) (h u : Sexp) → SexpFields (SC l h u) → At s 0 (sexp-bytes (SC l h u)) → (is-atom "qq" h && qq) ≡ r
+
+module _ {s : Bytes} where
+  pub heads : {word : Bytes} {n : ℕ} {r b : Bool} (w : String) → HeadAt s n → IsAtom (part s n (length s - n)) word r → word ≡ ascii w → r ≡ b → Heads s w b
+  heads {n = n} w hd x e q l h u fine a =
+      let v = cons l h u fine a in
+      sym (x .is w e h (v .fields-h) (into (at-place n (sym (hd .is l h u fine a)) (v .left)))) ∙ q
+
+  pub looks : {qq : Bool} → Heads s "qq" true → qq ≡ true → Looks s qq true
+  looks {qq} x e l h u fine a = ap (λ (b : Bool). b && qq) (x l h u fine a) ∙ e
+
+  pub no-qq : (qq : Bool) → Heads s "qq" false → Looks s qq false
+  no-qq qq x l h u fine a = ap (λ (b : Bool). b && qq) (x l h u fine a)
+
+  pub not-looked : {qq : Bool} → qq ≡ false → Looks s qq false
+  not-looked {qq} e l h u fine a = go (is-atom "qq" h)
     where
-      go : (l : Loc) (h u : Sexp) → SexpFields (SC l h u) → At s 0 (sexp-bytes (SC l h u)) → OnePlan 2 (record { way = 0; at = 0; end = e }) h u (length (sexp-bytes (SC l h u))) p → Planned false qq s p (SC l h u)
-      go l h u fine a (plan-none q i) = keeps (ap (λ (y : Plan). y .way) i) (ap (λ (y : Plan). y .end) i ∙ size .measures (SC l h u) fine a)
-          (λ m. cons-quote qq m l h u (sym (head-word hd x₁ "q" w₁ l h u fine a) ∙ t₁) (sym (head-word hd x₂ "quote" w₂ l h u fine a) ∙ t₂) ∙ requote-none l h u q)
-      go l h u fine a (plan-one k y z i nz way at end) = quotes way end
+      go : (b : Bool) → (b && qq) ≡ false
+      go true = e
+      go false = refl
+
+-- the only element of the tail u, where it stands at x
+record Tail (h u : Sexp) (x : ℕ) : Type 0 where
+  k : Loc
+  y : Sexp
+  z : Sexp
+  is : u ≡ SC k y z
+  ends : nilp z ≡ true
+  place : x ≡ head-width + length (sexp-bytes h) + head-width
+
+module _ {s : Bytes} {x : ℕ} (l : Loc) (h u : Sexp) (fine : SexpFields (SC l h u)) (a : At s 0 (sexp-bytes (SC l h u))) where
+  no-tail : Singles s x → x ≡ 0 → only u ≡ none
+  no-tail o e = go (o .singles l h u fine a)
+    where
+      go : SingleAt h u x → only u ≡ none
+      go (single-none q n) = n
+      go (single-one k y z i n p) = absurd (omega arith)
+
+  tail : Singles s x → (x ≡ 0 → ⊥) → Tail h u x
+  tail o e = go (o .singles l h u fine a)
+    where
+      go : SingleAt h u x → Tail h u x
+      go (single-none q n) = absurd (e q)
+      go (single-one k y z i n p) = record { k = k; y = y; z = z; is = i; ends = n; place = p }
+
+  -- it goes on alone
+  lone : {inside qq : Bool} (j : Tail h u x) → ((m : NameMap) → substitution inside qq m (SC l h (SC (j .k) (j .y) (j .z))) ≡ substitution (not inside) qq m (j .y))
+      → Lone inside qq s (SC l h u) x
+  lone {inside} {qq} j rule =
+      let P : Sexp → Type 0 = λ v. SexpFields (SC l h v) in
+      let Q : Sexp → Type 0 = λ v. At s 0 (sexp-bytes (SC l h v)) in
+      let i = element l h (j .k) (j .y) (j .z) (subst P (j .is) fine) (subst Q (j .is) a) in
+      let q = ap (λ (v : Sexp). length (sexp-bytes (SC l h v))) (j .is) in
+      record {
+        x = j .y;
+        fields = i .fields;
+        there = at-place x (sym (j .place)) (i .there);
+        moved = omega (arith, j .place);
+        within = omega (arith, j .place, i .within, q);
+        rule = λ m. ap (λ (v : Sexp). substitution inside qq m (SC l h v)) (j .is) ∙ rule m;
+      }
+
+-- the plans inside `qq`
+module _ {s : Bytes} {qq : Bool} where
+  pub plans-on : Heads s "unquote" false → PlansPair true qq s Parts
+  plans-on x =
+      record { pairs = λ l h u fine a. goes-on refl record { l = l; h = h; u = u; is = refl; rule = λ m. qq-on qq m l h u (x l h u fine a) } }
+
+  module _ {n : ℕ} (x : Heads s "unquote" true) (o : Singles s n) where
+    pub plans-unquote-none : n ≡ 0 → PlansPair true qq s Parts
+    plans-unquote-none e =
+        record {
+          pairs = λ l h u fine a.
+              goes-on refl record { l = l; h = h; u = u; is = refl; rule = λ m. qq-none qq m l h u (x l h u fine a) (no-tail l h u fine a o e) };
+        }
+
+    pub plans-unquote : {e : ℕ} → (n ≡ 0 → ⊥) → Measures s e → PlansPair true qq s (Alone n e)
+    plans-unquote d size =
+        record {
+          pairs = λ l h u fine a.
+              let j = tail l h u fine a o d in
+              goes-alone n (ap (Alone n) (size .measures (SC l h u) fine a))
+              (lone l h u fine a j (λ m. qq-one qq m l h (j .k) (j .y) (j .z) (x l h u fine a) (j .ends)));
+        }
+
+-- the plans outside
+module _ {s : Bytes} {qq : Bool} where
+  pub plans-q : {e : ℕ} → Heads s "q" true → Measures s e → PlansPair false qq s (Kept e)
+  plans-q x size = record { pairs = λ l h u fine a. keeps (ap Kept (size .measures (SC l h u) fine a)) (λ m. cons-q qq m l h u (x l h u fine a)) }
+
+  pub plans-go-on : Heads s "q" false → Heads s "quote" false → Looks s qq false → PlansPair false qq s Parts
+  plans-go-on x y z =
+      record {
+        pairs = λ l h u fine a.
+            goes-on refl record { l = l; h = h; u = u; is = refl; rule = λ m. cons-on qq m l h u (x l h u fine a) (y l h u fine a) (z l h u fine a) };
+      }
+
+  module _ {n e : ℕ} (x : Heads s "q" false) (o : Singles s n) (size : Measures s e) where
+    module _ (y : Heads s "quote" true) where
+      pub plans-quote-none : n ≡ 0 → PlansPair false qq s (Kept e)
+      plans-quote-none d =
           record {
-            l = l;
-            h = h;
-            l₂ = k;
-            v = y;
-            z = z;
-            is = ap (SC l h) i;
-            place = at;
-            rule = λ m. cons-quote qq m l h u (sym (head-word hd x₁ "q" w₁ l h u fine a) ∙ t₁) (sym (head-word hd x₂ "quote" w₂ l h u fine a) ∙ t₂) ∙ ap (requote l h) i ∙ requote-one l h k y z nz;
+            pairs = λ l h u fine a.
+                keeps (ap Kept (size .measures (SC l h u) fine a))
+                (λ m. cons-quote qq m l h u (x l h u fine a) (y l h u fine a) ∙ requote-none l h u (no-tail l h u fine a o d));
           }
 
-  pub plans-qq : r₂ ≡ false → ((l : Loc) (h u : Sexp) → SexpFields (SC l h u) → At s 0 (sexp-bytes (SC l h u)) → (is-atom "qq" h && qq) ≡ true) → WithOne s 3 (record { way = 0; at = 0; end = e }) p → PlansPair false qq s p
-  plans-qq t₂ f o = record { pairs = λ l h u fine a. go l h u fine a (o .ones l h u fine a) }
-    where
-      go : (l : Loc) (h u : Sexp) → SexpFields (SC l h u) → At s 0 (sexp-bytes (SC l h u)) → OnePlan 3 (record { way = 0; at = 0; end = e }) h u (length (sexp-bytes (SC l h u))) p → Planned false qq s p (SC l h u)
-      go l h u fine a (plan-none q i) = keeps (ap (λ (y : Plan). y .way) i) (ap (λ (y : Plan). y .end) i ∙ size .measures (SC l h u) fine a)
-          (λ m. cons-qq-none qq m l h u (sym (head-word hd x₁ "q" w₁ l h u fine a) ∙ t₁) (sym (head-word hd x₂ "quote" w₂ l h u fine a) ∙ t₂) (f l h u fine a) q)
-      go l h u fine a (plan-one k y z i nz way at end) =
-          let fine₂ = subst (λ (u′ : Sexp). SexpFields (SC l h u′)) i fine in
-          let a₀ = subst (λ (u′ : Sexp). At s 0 (sexp-bytes (SC l h u′))) i a in
-          let j = element l h k y z fine₂ a₀ in
-          let q : length (sexp-bytes (SC l h u)) ≡ length (sexp-bytes (SC l h (SC k y z))) = ap (λ (u′ : Sexp). length (sexp-bytes (SC l h u′))) i in
-          goes-alone way end
+      pub plans-quote : (n ≡ 0 → ⊥) → PlansPair false qq s (Requoted n e)
+      plans-quote d =
           record {
-            x = y;
-            fields = j .fields;
-            there = at-place (p .at) (sym at) (j .there);
-            moved = omega arith;
-            within = omega (arith, j .within);
-            rule = λ m. ap (λ (u′ : Sexp). rename-in-cons qq m (SC l h u′)) i
-                ∙ cons-qq-one qq m l h k y z (sym (head-word hd x₁ "q" w₁ l h u fine a) ∙ t₁) (sym (head-word hd x₂ "quote" w₂ l h u fine a) ∙ t₂) (f l h u fine a) nz;
+            pairs = λ l h u fine a.
+                let j = tail l h u fine a o d in
+                quotes n (ap (Requoted n) (size .measures (SC l h u) fine a))
+                record {
+                  l = l;
+                  h = h;
+                  l₂ = j .k;
+                  v = j .y;
+                  z = j .z;
+                  is = ap (SC l h) (j .is);
+                  place = j .place;
+                  rule = λ m. cons-quote qq m l h u (x l h u fine a) (y l h u fine a) ∙ ap (requote l h) (j .is) ∙ requote-one l h (j .k) (j .y) (j .z) (j .ends);
+                };
           }
 
-pub both-true : (a b : Bool) → a ≡ true → b ≡ true → (a && b) ≡ true
-both-true a b e f = ap (λ (x : Bool). x && b) e ∙ f
+    module _ (y : Heads s "quote" false) (z : Looks s qq true) where
+      pub plans-qq-none : n ≡ 0 → PlansPair false qq s (Kept e)
+      plans-qq-none d =
+          record {
+            pairs = λ l h u fine a.
+                keeps (ap Kept (size .measures (SC l h u) fine a))
+                (λ m. cons-qq-none qq m l h u (x l h u fine a) (y l h u fine a) (z l h u fine a) (no-tail l h u fine a o d));
+          }
+
+      pub plans-qq : (n ≡ 0 → ⊥) → PlansPair false qq s (Alone n e)
+      plans-qq d =
+          record {
+            pairs = λ l h u fine a.
+                let j = tail l h u fine a o d in
+                goes-alone n (ap (Alone n) (size .measures (SC l h u) fine a))
+                (lone l h u fine a j (λ m. cons-qq-one qq m l h (j .k) (j .y) (j .z) (x l h u fine a) (y l h u fine a) (z l h u fine a) (j .ends)));
+          }

@@ -21,9 +21,10 @@ use Rattle.views.specs.declared.SexpView.{SexpView}
 use Rattle.views.proofs.AnySexp.{mark-of}
 use Rattle.views.proofs.Views.{first-of, rest-of}
 use Rattle.substitution.specs.Arena.{head-width, AtomAtStart, Measures}
-use Rattle.substitution.specs.Plans.{OnlyAt, only-none, only-one, Onlys, HeadAt, IsAtom, OnePlan, plan-none, plan-one, WithOne, Planned, keeps, renames, Plans, PlansPair}
+use Rattle.substitution.specs.Plans.{OnlyAt, only-none, only-one, Onlys, HeadAt, IsAtom, SingleAt, single-none, single-one, Singles, Planned, keeps, renames, Plans, PlansPair}
 use Rattle.substitution.specs.RenameInCons.{rename-in-cons, rename-in-qq, rename-atom}
 use Rattle.substitution.specs.declared.Plan.{Plan}
+use Rattle.substitution.specs.declared.Plan.the-variants.{Kept, ByMap}
 use Rattle.substitution.proofs.Views.{atom}
 use Rattle.substitution.proofs.Pairs.{cons, cons-width, cons-length}
 
@@ -121,7 +122,11 @@ module _ {s : Bytes} {v : SexpView} (x : SeesSexp s v) where
   -- where the head stands
   pub head-at : HeadAt s (v .start)
   unfolding SexpAt SexpFields
-  head-at = record { within = omega (arith, x .forward, x .within); is = λ l h u w a. let k = x .sees (SC l h u) w a in omega (arith, k .2, cons-length l h u (cons-width l (w .0))) }
+  head-at =
+      record {
+        within = omega (arith, x .forward, x .within);
+        is = λ l h u w a. let k = x .sees (SC l h u) w a in omega (arith, k .2, cons-length l h u (cons-width l (w .0)));
+      }
 
   module _ {n : ℕ} {r : Bool} (q : v .tag ≡ 1) (size : Measures (part s (v .start) (length s - v .start)) n)
       (end : (t : Sexp) → SexpFields t → At (part s (v .start + n) (length s - (v .start + n))) 0 (sexp-bytes t) → r ≡ nilp t) where
@@ -155,7 +160,7 @@ module _ {s : Bytes} {v : SexpView} (x : SeesSexp s v) where
         go (SQ y b m) w a k = absurd (omega (arith, k .tag))
         go (SA y m) w a k = absurd (omega (arith, k .tag))
 
--- the plan for the element of a tail
+-- the element of a tail
 module _ {s : Bytes} {n k x : ℕ} (hd : HeadAt s n) (size : Measures (part s n (length s - n)) k) (o : Onlys (part s (n + k) (length s - (n + k))) x) where
   tail-only : (l : Loc) (h u : Sexp) → SexpFields (SC l h u) → At s 0 (sexp-bytes (SC l h u)) → OnlyAt u x × (n + k ≡ head-width + length (sexp-bytes h))
   tail-only l h u w a =
@@ -164,39 +169,38 @@ module _ {s : Bytes} {n k x : ℕ} (hd : HeadAt s n) (size : Measures (part s n 
       let i = size .measures h (v .fields-h) (into (at-place n (sym e) (v .left))) in
       (o .onlys u (v .fields-u) (into (at-place (n + k) (omega (arith, i, e)) (v .right))), omega (arith, i, e))
 
-  pub with-none : {way : ℕ} {other : Plan} → x ≡ 0 → WithOne s way other other
-  with-none {way} {other} z = record { ones = λ l h u w a. go l h u w a (tail-only l h u w a .0) }
+  pub singles-none : x ≡ 0 → Singles s 0
+  singles-none z = record { singles = λ l h u w a. go h u (tail-only l h u w a .0) }
     where
-      go : (l : Loc) (h u : Sexp) → SexpFields (SC l h u) → At s 0 (sexp-bytes (SC l h u)) → OnlyAt u x → OnePlan way other h u (length (sexp-bytes (SC l h u))) other
-      go l h u w a (only-none e q) = plan-none q refl
-      go l h u w a (only-one y c d e q r) = absurd (omega arith)
+      go : (h u : Sexp) → OnlyAt u x → SingleAt h u 0
+      go h u (only-none e q) = single-none refl q
+      go h u (only-one y c d e q r) = absurd (omega arith)
 
-  pub with-some : {way e : ℕ} {other : Plan} → (x ≡ 0 → ⊥) → Measures s e → WithOne s way other (record { way = way; at = n + k + x; end = e })
-  with-some {way} {e} {other} z m = record { ones = λ l h u w a. go l h u w a (tail-only l h u w a) }
+  pub singles-one : (x ≡ 0 → ⊥) → Singles s (n + k + x)
+  singles-one z = record { singles = λ l h u w a. go h u (tail-only l h u w a) }
     where
-      go : (l : Loc) (h u : Sexp) → SexpFields (SC l h u) → At s 0 (sexp-bytes (SC l h u)) → OnlyAt u x × (n + k ≡ head-width + length (sexp-bytes h))
-          → OnePlan way other h u (length (sexp-bytes (SC l h u))) (record { way = way; at = n + k + x; end = e })
-      go l h u w a (only-none r q, f) = absurd (z r)
-      go l h u w a (only-one y c d g q r, f) = plan-one y c d g q refl (omega arith) (m .measures (SC l h u) w a)
+      go : (h u : Sexp) → OnlyAt u x × (n + k ≡ head-width + length (sexp-bytes h)) → SingleAt h u (n + k + x)
+      go h u (only-none r q, f) = absurd (z r)
+      go h u (only-one y c d g q r, f) = single-one y c d g q (omega arith)
 
 -- the plan by the tag of the view
 module _ {s : Bytes} {v : SexpView} (x : SeesSexp s v) {inside qq : Bool} where
-  pub leaf-inside : (v .tag ≡ 1 → ⊥) → inside ≡ true → Plans inside qq s (record { way = 0; at = 0; end = v .end })
+  pub leaf-inside : (v .tag ≡ 1 → ⊥) → inside ≡ true → Plans inside qq s (Kept (v .end))
   unfolding SexpAt rename-in-qq
-  leaf-inside q e = subst (λ (i : Bool). Plans i qq s (record { way = 0; at = 0; end = v .end })) (sym e) record { plans = λ t w a. go t (x .sees t w a) }
+  leaf-inside q e = subst (λ (i : Bool). Plans i qq s (Kept (v .end))) (sym e) record { plans = λ t w a. go t (x .sees t w a) }
     where
-      go : (t : Sexp) → SexpAt s v t → Planned true qq s (record { way = 0; at = 0; end = v .end }) t
-      go (SN y) k = keeps refl (k .1) (λ m. refl)
+      go : (t : Sexp) → SexpAt s v t → Planned true qq s (Kept (v .end)) t
+      go (SN y) k = keeps (ap Kept (k .1)) (λ m. refl)
       go (SC y h u) k = absurd (q (k .0))
-      go (SI y b) k = keeps refl (k .whole) (λ m. refl)
-      go (SQ y b n) k = keeps refl (k .whole) (λ m. refl)
-      go (SA y n) k = keeps refl (k .whole) (λ m. refl)
+      go (SI y b) k = keeps (ap Kept (k .whole)) (λ m. refl)
+      go (SQ y b n) k = keeps (ap Kept (k .whole)) (λ m. refl)
+      go (SA y n) k = keeps (ap Kept (k .whole)) (λ m. refl)
 
-  pub leaf-outside : (v .tag ≡ 1 → ⊥) → inside ≡ false → Plans inside qq s (record { way = 1; at = 0; end = v .end })
+  pub leaf-outside : (v .tag ≡ 1 → ⊥) → inside ≡ false → Plans inside qq s ByMap
   unfolding SexpAt rename-in-cons rename-atom
-  leaf-outside q e = subst (λ (i : Bool). Plans i qq s (record { way = 1; at = 0; end = v .end })) (sym e) record { plans = λ t w a. go t (x .sees t w a) }
+  leaf-outside q e = subst (λ (i : Bool). Plans i qq s ByMap) (sym e) record { plans = λ t w a. go t (x .sees t w a) }
     where
-      go : (t : Sexp) → SexpAt s v t → Planned false qq s (record { way = 1; at = 0; end = v .end }) t
+      go : (t : Sexp) → SexpAt s v t → Planned false qq s ByMap t
       go (SN y) k = renames refl (λ m. refl)
       go (SC y h u) k = absurd (q (k .0))
       go (SI y b) k = renames refl (λ m. refl)

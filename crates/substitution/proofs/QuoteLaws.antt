@@ -19,10 +19,10 @@ use Rattle.records.specs.declared.Step.the-variants.{Done, Refused}
 use Rattle.views.specs.Views.{mark-width}
 use Rattle.substitution.specs.Arena.{head-width, fitting, Measures, SexpAtStart}
 use Rattle.substitution.specs.Plans.{Plans, Remakes, substitution}
-use Rattle.substitution.specs.declared.Plan.{Plan}
+use Rattle.substitution.specs.declared.Plan.the-variants.{Requoted}
 use Rattle.substitution.proofs.HeadLaws.{element}
 use Rattle.substitution.proofs.Pairs.{cons-width, cons-length}
-use Rattle.substitution.proofs.PlanLaws.{plan-quoted}
+use Rattle.substitution.proofs.PlanLaws.{plan-says}
 use Rattle.substitution.proofs.Substitutes.{done-eq, fitting-fits, fitting-long}
 use Rattle.substitution.proofs.Views.{valid-loc-of}
 
@@ -142,7 +142,7 @@ module _ {mem a b c new : Bytes} {free last : ℕ} (at : ℕ) (low : last ≤ fr
       (at-join t (n ++ k) (stays (at-above (f₂ .frame) a₃ (omega arith)) (omega arith))
       (at-join n k (at-below (f₄ .frame) a₄ (omega arith)) a₅))))
 
-module _ (inside qq : Bool) {mem : Bytes} {p : Plan} (x : Plans inside qq mem p) (e : p .way ≡ 2) where
+module _ (inside qq : Bool) {mem : Bytes} {at end : ℕ} (x : Plans inside qq mem (Requoted at end)) where
   -- the record t that is rebuilt, with v where the plan says
   pub record Seen (t : Sexp) : Type 0 where
     l : Loc
@@ -152,19 +152,19 @@ module _ (inside qq : Bool) {mem : Bytes} {p : Plan} (x : Plans inside qq mem p)
     z : Sexp
     valid : SexpFields (SC l h (SC l₂ v z))
     starts : At mem 0 (sexp-bytes (SC l h (SC l₂ v z)))
-    place : p .at ≡ head-width + length (sexp-bytes h) + head-width
-    ends : p .end ≡ length (sexp-bytes t)
+    place : at ≡ head-width + length (sexp-bytes h) + head-width
+    ends : end ≡ length (sexp-bytes t)
     rule : (m : NameMap) → substitution inside qq m t ≡ remade l h v
-    wide : length (sexp-bytes (remade l h v)) ≡ p .at + length (sexp-bytes v) + head-width
+    wide : length (sexp-bytes (remade l h v)) ≡ at + length (sexp-bytes v) + head-width
     pub fields : SexpFields v
-    pub there : At mem (p .at) (sexp-bytes v)
-    pub behind : head-width + head-width ≤ p .at
-    pub within : p .at + length (sexp-bytes v) ≤ length (sexp-bytes t)
+    pub there : At mem at (sexp-bytes v)
+    pub behind : head-width + head-width ≤ at
+    pub within : at + length (sexp-bytes v) ≤ length (sexp-bytes t)
 
   pub seen : (t : Sexp) → SexpFields t → At mem 0 (sexp-bytes t) → Seen t
   unfolding SexpFields
   seen t w a =
-      let k = plan-quoted inside qq x t w a e in
+      let k = plan-says inside qq x t w a in
       let q = k .1 in
       let y = subst SexpFields (q .is) w in
       let b = subst (λ (u : Sexp). At mem 0 (sexp-bytes u)) (q .is) a in
@@ -183,18 +183,18 @@ module _ (inside qq : Bool) {mem : Bytes} {p : Plan} (x : Plans inside qq mem p)
         rule = q .rule;
         wide = omega (arith, remade-length (q .l) (q .h) (q .v) (y .0) (valid-loc-of (q .v) (i .fields)), q .place);
         fields = i .fields;
-        there = at-place (p .at) (sym (q .place)) (i .there);
+        there = at-place at (sym (q .place)) (i .there);
         behind = omega (arith, q .place);
         within = omega (arith, q .place, i .within);
       }
 
   -- v has n bytes
-  module _ {n : ℕ} (size : Measures (part mem (p .at) (length mem - p .at)) n) where
+  module _ {n : ℕ} (size : Measures (part mem at (length mem - at)) n) where
     pub measured : {t : Sexp} (k : Seen t) → n ≡ length (sexp-bytes (k .v))
     measured k = size .measures (k .v) (k .fields) (into (k .there))
 
     module _ (f c : ℕ) where
-      pub requote-long : {free : ℕ} → f < p .at + n + mark-width + loc-width → Remakes inside qq mem mem free f c (Refused 7 0)
+      pub requote-long : {free : ℕ} → f < at + n + mark-width + loc-width → Remakes inside qq mem mem free f c (Refused 7 0)
       requote-long lt m =
           record {
             frame = same-refl;
@@ -204,20 +204,20 @@ module _ (inside qq : Bool) {mem : Bytes} {p : Plan} (x : Plans inside qq mem p)
                 refused 7 0 (ap (fitting sexp-bytes f c) (k .rule m) ∙ fitting-long sexp-bytes f c (remade (k .l) (k .h) (k .v)) (omega (arith, k .wide))) refl;
           }
 
-      pub requote-done : {a b d new : Bytes} {free : ℕ} {t₀ : Sexp} → SexpAtStart mem free t₀ → p .at + n + mark-width + loc-width ≤ f → free + f ≤ length mem
-          → Filled mem a free (drop 0 mem) (p .at + n) → Filled a b (free + p .at - loc-width) (drop (p .at + mark-width) a) loc-width
-          → Filled b d (free + (p .at + n)) (ascii "SN") mark-width → Filled d new (free + (p .at + n) + mark-width) (drop (p .at + mark-width) d) loc-width
-          → Remakes inside qq mem new free f c (Done (p .end) (p .at + n + mark-width + loc-width) c)
+      pub requote-done : {a b d new : Bytes} {free : ℕ} {t₀ : Sexp} → SexpAtStart mem free t₀ → at + n + mark-width + loc-width ≤ f → free + f ≤ length mem
+          → Filled mem a free (drop 0 mem) (at + n) → Filled a b (free + at - loc-width) (drop (at + mark-width) a) loc-width
+          → Filled b d (free + (at + n)) (ascii "SN") mark-width → Filled d new (free + (at + n) + mark-width) (drop (at + mark-width) d) loc-width
+          → Remakes inside qq mem new free f c (Done end (at + n + mark-width + loc-width) c)
       requote-done {free = free} {t₀} here le fit f₁ f₂ f₃ f₄ m =
           let k₀ = seen t₀ (here .fields) (here .there) in
-          let low : p .at + n ≤ free = omega (arith, k₀ .within, measured k₀, here .below) in
+          let low : at + n ≤ free = omega (arith, k₀ .within, measured k₀, here .below) in
           record {
-            frame = requoted-frame (p .at) low (omega arith) f₁ f₂ f₃ f₄ (free + f) (omega (arith, k₀ .behind)) (omega arith) (omega arith);
+            frame = requoted-frame at low (omega arith) f₁ f₂ f₃ f₄ (free + f) (omega (arith, k₀ .behind)) (omega arith) (omega arith);
             says = λ t a b w.
                 let k = seen t w a in
                 let u = remade (k .l) (k .h) (k .v) in
                 let s = measured k in
                 let is = ap (fitting sexp-bytes f c) (k .rule m) ∙ fitting-fits sexp-bytes f c u (omega (arith, k .wide)) in
                 gave u c is (done-eq (k .ends) (omega (arith, k .wide)))
-                (requoted (p .at) low (omega arith) f₁ f₂ f₃ f₄ (k .l) (k .h) (k .l₂) (k .v) (k .z) (k .valid) (k .starts) (k .place) (omega arith));
+                (requoted at low (omega arith) f₁ f₂ f₃ f₄ (k .l) (k .h) (k .l₂) (k .v) (k .z) (k .valid) (k .starts) (k .place) (omega arith));
           }

@@ -1,4 +1,4 @@
--- How an S record is substituted: what each way of `plan_of` says of the record at the start.
+-- How an S record is substituted: what each plan of `plan_of` says of the record at the start.
 -- Assumes nothing.
 use mathlib.Core.Bool.{Bool, true, false, not}
 use mathlib.Core.Path.{_≡_}
@@ -17,6 +17,7 @@ use Rattle.records.specs.declared.Step.{Step}
 use Rattle.substitution.specs.Arena.{head-width, fitting}
 use Rattle.substitution.specs.RenameInCons.{rename-in-cons, rename-in-qq, rename-atom}
 use Rattle.substitution.specs.declared.Plan.{Plan}
+use Rattle.substitution.specs.declared.Plan.the-variants.{Kept, ByMap, Requoted, Alone, Parts}
 
 -- the rule inside `qq`, or the one outside
 abbrev pub substitution : Bool → Bool → NameMap → Sexp → Sexp
@@ -43,7 +44,7 @@ pub record Quoted (inside qq : Bool) (t : Sexp) (at : ℕ) : Type 0 where
   pub rule : (m : NameMap) → substitution inside qq m t ≡ SC l h (SC (loc-of v) v (SN (loc-of v)))
 
 -- an SC whose only element x, which stands at `at`, goes on alone by the other rule
-pub record Alone (inside qq : Bool) (s : Bytes) (t : Sexp) (at : ℕ) : Type 0 where
+pub record Lone (inside qq : Bool) (s : Bytes) (t : Sexp) (at : ℕ) : Type 0 where
   pub x : Sexp
   pub fields : SexpFields x
   pub there : At s at (sexp-bytes x)
@@ -53,11 +54,11 @@ pub record Alone (inside qq : Bool) (s : Bytes) (t : Sexp) (at : ℕ) : Type 0 w
 
 -- what the plan p says of the record t
 pub data Planned (inside qq : Bool) (s : Bytes) (p : Plan) (t : Sexp) : Type 0 where
-  keeps : p .way ≡ 0 → p .end ≡ length (sexp-bytes t) → ((m : NameMap) → substitution inside qq m t ≡ t) → Planned inside qq s p t
-  renames : p .way ≡ 1 → ((m : NameMap) → substitution inside qq m t ≡ rename-atom m t) → Planned inside qq s p t
-  quotes : p .way ≡ 2 → p .end ≡ length (sexp-bytes t) → Quoted inside qq t (p .at) → Planned inside qq s p t
-  goes-alone : p .way ≡ 3 → p .end ≡ length (sexp-bytes t) → Alone inside qq s t (p .at) → Planned inside qq s p t
-  goes-on : p .way ≡ 4 → Goes inside qq t → Planned inside qq s p t
+  keeps : p ≡ Kept (length (sexp-bytes t)) → ((m : NameMap) → substitution inside qq m t ≡ t) → Planned inside qq s p t
+  renames : p ≡ ByMap → ((m : NameMap) → substitution inside qq m t ≡ rename-atom m t) → Planned inside qq s p t
+  quotes : (at : ℕ) → p ≡ Requoted at (length (sexp-bytes t)) → Quoted inside qq t at → Planned inside qq s p t
+  goes-alone : (at : ℕ) → p ≡ Alone at (length (sexp-bytes t)) → Lone inside qq s t at → Planned inside qq s p t
+  goes-on : p ≡ Parts → Goes inside qq t → Planned inside qq s p t
 
 -- p is the plan for the record at the start
 pub record Plans (inside qq : Bool) (s : Bytes) (p : Plan) : Type 0 where
@@ -85,13 +86,13 @@ pub record HeadAt (s : Bytes) (n : ℕ) : Type 0 where
   pub within : n ≤ length s
   pub is : (l : Loc) (h u : Sexp) → SexpFields (SC l h u) → At s 0 (sexp-bytes (SC l h u)) → n ≡ head-width
 
--- r has this way, and is for the element of u, which stands behind h in a record of n bytes; or u has none, and r is the other plan
-pub data OnePlan (way : ℕ) (other : Plan) (h u : Sexp) (n : ℕ) (r : Plan) : Type 0 where
-  plan-none : only u ≡ none → r ≡ other → OnePlan way other h u n r
-  plan-one : (l : Loc) (x z : Sexp) → u ≡ SC l x z → nilp z ≡ true → r .way ≡ way → r .at ≡ head-width + length (sexp-bytes h) + head-width → r .end ≡ n → OnePlan way other h u n r
+-- a tail u that is a proper list of one element, which stands at r behind the head h; or is none, and r is 0
+pub data SingleAt (h u : Sexp) (r : ℕ) : Type 0 where
+  single-none : r ≡ 0 → only u ≡ none → SingleAt h u r
+  single-one : (l : Loc) (x z : Sexp) → u ≡ SC l x z → nilp z ≡ true → r ≡ head-width + length (sexp-bytes h) + head-width → SingleAt h u r
 
-pub record WithOne (s : Bytes) (way : ℕ) (other r : Plan) : Type 0 where
-  pub ones : (l : Loc) (h u : Sexp) → SexpFields (SC l h u) → At s 0 (sexp-bytes (SC l h u)) → OnePlan way other h u (length (sexp-bytes (SC l h u))) r
+pub record Singles (s : Bytes) (r : ℕ) : Type 0 where
+  pub singles : (l : Loc) (h u : Sexp) → SexpFields (SC l h u) → At s 0 (sexp-bytes (SC l h u)) → SingleAt h u r
 
 -- p is the plan for an SC at the start
 pub record PlansPair (inside qq : Bool) (s : Bytes) (p : Plan) : Type 0 where

@@ -16,11 +16,16 @@ pub struct Invented {
     pub end: usize,
 }
 
-// How an S record is substituted. Way 0: it is kept, and ends at `end`. Way 1: an atom goes by the
-// map. Way 2: a `(quote v)`, which ends at `end`, is rebuilt; v starts at `at`. Way 3: the element
-// at `at` goes on alone by the other rule; the record ends at `end`. Way 4: both parts go on.
-pub struct Plan {
-    pub way: u8,
-    pub at: usize,
-    pub end: usize,
+// How an S record is substituted.
+pub enum Plan {
+    // It is kept, and has so many bytes.
+    Kept(usize),
+    // An atom goes by the map.
+    ByMap,
+    // A `(quote v)` is rebuilt: where v starts, and where the record ends.
+    Requoted(usize, usize),
+    // The element that starts there goes on alone by the other rule; and where the record ends.
+    Alone(usize, usize),
+    // Both parts go on.
+    Parts,
 }

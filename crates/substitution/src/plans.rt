@@ -11,7 +11,7 @@ ghost use Rattle.names.specs.Segments.{At};
 ghost use Rattle.records.specs.Records.{Sexp, sexp-bytes};
 ghost use Rattle.records.specs.Sexps.{nilp};
 ghost use Rattle.records.specs.Valid.{SexpFields};
-ghost use Rattle.substitution.specs.Plans.{Plans, PlansPair, IsAtom, Onlys, HeadAt, WithOne};
+ghost use Rattle.substitution.specs.Plans.{Plans, PlansPair, IsAtom, Onlys, HeadAt, Singles};
 
 // Whether the S record that s starts with ends a proper list.
 fn nilp(s: &[u8]) -> bool
@@ -62,19 +62,17 @@ fn only(s: &[u8]) -> usize
     0
 }
 
-// The plan of this way for the element of an SC whose tail is a proper list of one; or else `other`.
-fn with_one(s: &[u8], head: usize, way: u8, other: Plan) -> Plan
+// Where the element starts if the tail of the SC at the start is a proper list of one; or else 0.
+fn single(s: &[u8], head: usize) -> usize
     requires { ⌜ HeadAt (now s) head ⌝ }
-    ensures { λ r. ⌜ WithOne (now (s .entry)) way other r ⌝ }
+    ensures { λ r. ⌜ Singles (now (s .entry)) r ⌝ }
 {
     let tail = head + sexp_length(&s[head..]);
     let x = only(&s[tail..]);
     if x == 0 {
-        return other;
+        return 0;
     }
-    let at = tail + x;
-    let end = sexp_length(s);
-    Plan { way, at, end }
+    tail + x
 }
 
 // The plan for an SC inside `qq`.
@@ -82,15 +80,14 @@ fn in_qq(s: &[u8], head: usize, qq: bool) -> Plan
     requires { ⌜ HeadAt (now s) head ⌝ }
     ensures { λ r. ⌜ PlansPair true qq (now (s .entry)) r ⌝ }
 {
-    let on = Plan {
-        way: 4,
-        at: 0,
-        end: 0,
-    };
     if is_atom(&s[head..], b"unquote") {
-        return with_one(s, head, 3, on);
+        let x = single(s, head);
+        if x != 0 {
+            let end = sexp_length(s);
+            return Plan::Alone(x, end);
+        }
     }
-    on
+    Plan::Parts
 }
 
 // The plan for an SC outside `qq`.
@@ -100,23 +97,27 @@ fn in_cons(s: &[u8], head: usize, qq: bool) -> Plan
 {
     if is_atom(&s[head..], b"q") {
         let end = sexp_length(s);
-        return Plan { way: 0, at: 0, end };
+        return Plan::Kept(end);
     }
     if is_atom(&s[head..], b"quote") {
+        let x = single(s, head);
         let end = sexp_length(s);
-        return with_one(s, head, 2, Plan { way: 0, at: 0, end });
+        if x != 0 {
+            return Plan::Requoted(x, end);
+        }
+        return Plan::Kept(end);
     }
     if qq {
         if is_atom(&s[head..], b"qq") {
+            let x = single(s, head);
             let end = sexp_length(s);
-            return with_one(s, head, 3, Plan { way: 0, at: 0, end });
+            if x != 0 {
+                return Plan::Alone(x, end);
+            }
+            return Plan::Kept(end);
         }
     }
-    Plan {
-        way: 4,
-        at: 0,
-        end: 0,
-    }
+    Plan::Parts
 }
 
 // The plan for the S record that s starts with; inside `qq`, or outside.
@@ -128,9 +129,9 @@ pub fn plan_of(s: &[u8], qq: bool, inside: bool) -> Plan
     let end = v.end;
     if v.tag != 1 {
         if inside {
-            return Plan { way: 0, at: 0, end };
+            return Plan::Kept(end);
         }
-        return Plan { way: 1, at: 0, end };
+        return Plan::ByMap;
     }
     if inside {
         return in_qq(s, start, qq);

@@ -26,6 +26,7 @@ ghost use Rattle.records.specs.Records.{Sexp};
 ghost use Rattle.substitution.specs.Arena.{MapAt, SexpAtStart, Substitutes, AtomAtStart, head-width, named};
 ghost use Rattle.substitution.specs.RenameInCons.{rename-atom, rename-in-cons, rename-in-qq};
 ghost use Rattle.substitution.specs.Plans.{Plans, PairAtStart, Remakes, substitution};
+ghost use Rattle.substitution.specs.declared.Plan.the-variants.{Requoted, Alone};
 
 // Writes the SA at the start of mem to free, with another name.
 fn put_atom(mem: &mut [u8], free: usize, name: &[u8])
@@ -79,23 +80,22 @@ pub fn rename_atom(mem: &mut [u8], free: usize, map_len: usize, f: usize, counte
     keep(mem, free, n, f, counter)
 }
 
-// Rebuilds a `(quote v)`: its inner SC and closing SN at the L of v.
+// Rebuilds a `(quote v)` whose v starts at `at`: its inner SC and closing SN at the L of v.
 fn requote(
     mem: &mut [u8],
     free: usize,
     qq: bool,
     inside: bool,
-    p: Plan,
+    at: usize,
+    end: usize,
     f: usize,
     counter: u64,
 ) -> Step
     requires { ⌜ ((t : Sexp) × SexpAtStart (now mem) free t) ⌝ }
     requires { ⌜ free + f ≤ length (now mem) ⌝ }
-    requires { ⌜ Plans inside qq (now mem) p × (p .way ≡ 2) ⌝ }
+    requires { ⌜ Plans inside qq (now mem) (Requoted at end) ⌝ }
     ensures { λ r. ⌜ Remakes inside qq (now (mem .entry)) (now (mem .exit)) free f counter r ⌝ }
 {
-    let at = p.at;
-    let end = p.end;
     let loc = at + MARK_WIDTH;
     let last = at + sexp_length(&mem[at..]);
     if f < last + MARK_WIDTH + LOC_WIDTH {
@@ -108,25 +108,24 @@ fn requote(
     Step::Done(end, last + MARK_WIDTH + LOC_WIDTH, counter)
 }
 
-// The element at a place alone, by the other rule, for a record that ends at `end`.
+// The element that starts at `at` alone, by the other rule, for a record that ends at `end`.
 fn alone(
     mem: &mut [u8],
     free: usize,
     map_len: usize,
     qq: bool,
     inside: bool,
-    p: Plan,
+    at: usize,
+    end: usize,
     f: usize,
     counter: u64,
 ) -> Step
     requires { ⌜ ((t : Sexp) × SexpAtStart (now mem) free t) ⌝ }
     requires { ⌜ ((m : NameMap) × MapAt (now mem) «map_len» m) ⌝ }
     requires { ⌜ free + f + «map_len» ≤ length (now mem) ⌝ }
-    requires { ⌜ Plans inside qq (now mem) p × (p .way ≡ 3) ⌝ }
+    requires { ⌜ Plans inside qq (now mem) (Alone at end) ⌝ }
     ensures { λ r. ⌜ Substitutes (substitution inside qq) (now (mem .entry)) (now (mem .exit)) free «map_len» f counter r ⌝ }
 {
-    let at = p.at;
-    let end = p.end;
     match rename(&mut mem[at..], free - at, map_len, qq, !inside, f, counter) {
         Step::Refused(k, p) => Step::Refused(k, p),
         Step::Done(_, w, c) => Step::Done(end, w, c),
@@ -182,15 +181,12 @@ fn rename(
     requires { ⌜ free + f + «map_len» ≤ length (now mem) ⌝ }
     ensures { λ r. ⌜ Substitutes (substitution inside qq) (now (mem .entry)) (now (mem .exit)) free «map_len» f counter r ⌝ }
 {
-    let p = plan_of(mem, qq, inside);
-    let way = p.way;
-    let end = p.end;
-    match way {
-        0 => keep(mem, free, end, f, counter),
-        1 => rename_atom(mem, free, map_len, f, counter),
-        2 => requote(mem, free, qq, inside, p, f, counter),
-        3 => alone(mem, free, map_len, qq, inside, p, f, counter),
-        _ => pair(mem, free, map_len, qq, inside, f, counter),
+    match plan_of(mem, qq, inside) {
+        Plan::Kept(n) => keep(mem, free, n, f, counter),
+        Plan::ByMap => rename_atom(mem, free, map_len, f, counter),
+        Plan::Requoted(at, end) => requote(mem, free, qq, inside, at, end, f, counter),
+        Plan::Alone(at, end) => alone(mem, free, map_len, qq, inside, at, end, f, counter),
+        Plan::Parts => pair(mem, free, map_len, qq, inside, f, counter),
     }
 }
 

@@ -1,118 +1,116 @@
 -- `substitution::plans::in_cons` meets its contract. Assumes nothing.
 use borrow.Author.Needs.{needs}
-use mathlib.Core.Path.{refl, sym, _∙_}
+use mathlib.Core.Bool.{true, false}
+use mathlib.Core.Path.{refl}
 use Rattle.names.specs.Names.{ascii}
-use Rattle.substitution.proofs.HeadLaws.{plans-q, plans-quote, plans-qq, plans-go-on, head-word, and-false, false-and, both-true}
-use Rattle.records.specs.Sexps.{is-atom}
+use Rattle.substitution.proofs.HeadLaws.{Heads, heads, looks, no-qq, not-looked}
+use Rattle.substitution.proofs.HeadLaws.{plans-q, plans-go-on, plans-quote, plans-quote-none, plans-qq, plans-qq-none}
 use Rattle.substitution.proofs.plans.in_cons.Statement.{statement}
 use Rattle.substitution.proofs.plans.in_cons.Tie as tie
 
-sub-is-atom : tie.Need-sub-is-atom
-sub-is-atom c = search needs
+-- from a place back to an earlier one
+abbrev start : tie.After-is-atom → tie.Start
+start c = c .before .before .before .before
 
-part-is-atom-start : tie.Need-part-is-atom-start
-part-is-atom-start c = search needs
+abbrev second : tie.After-is-atom2 → tie.Else1
+second c = c .before .before .before
 
-part-is-atom-end : tie.Need-part-is-atom-end
-part-is-atom-end c = search needs
+abbrev third : tie.After-is-atom3 → tie.Then4
+third c = c .before .before .before
 
-slice-aggregate-is-atom : tie.Need-slice-aggregate-is-atom
-slice-aggregate-is-atom c = search needs
+abbrev first : tie.Else2 → tie.Start
+first c = start (second (c .before) .before)
 
-is-atom-requires : tie.Need-is-atom-requires
-is-atom-requires c κs = search needs
+-- which words are not at the head
+not-q : (c : tie.Else1) → Heads (start (c .before) .args .s .now) "q" false
+unfolding ascii
+not-q c = heads "q" (start (c .before) .pre) (c .before .is-atom .ensures) refl (c .if1 .left)
 
-sexp-length-requires : tie.Need-sexp-length-requires
-sexp-length-requires c κs = search needs
+not-quote : (c : tie.Else2) → Heads (first c .args .s .now) "quote" false
+unfolding ascii
+not-quote c = heads "quote" (first c .pre) (c .before .is-atom2 .ensures) refl (c .if2 .left)
+
+-- and which one is
+quote : (c : tie.Then2) → Heads (start (second (c .before) .before) .args .s .now) "quote" true
+unfolding ascii
+quote c = heads "quote" (start (second (c .before) .before) .pre) (c .before .is-atom2 .ensures) refl (c .if2 .taken)
+
+qq : (c : tie.Then5) → Heads (first (third (c .before) .before) .args .s .now) "qq" true
+unfolding ascii
+qq c = heads "qq" (first (third (c .before) .before) .pre) (c .before .is-atom3 .ensures) refl (c .if5 .taken)
 
 returns : tie.Need-returns
 unfolding ascii
-returns c = plans-q (c .before .before .before .before .before .before .pre) (c .before .before .is-atom .ensures) refl (c .before .if1 .taken) (c .sexp-length .ensures)
-
-sub-is-atom-2 : tie.Need-sub-is-atom-2
-sub-is-atom-2 c = search needs
-
-part-is-atom-start-2 : tie.Need-part-is-atom-start-2
-part-is-atom-start-2 c = search needs
-
-part-is-atom-end-2 : tie.Need-part-is-atom-end-2
-part-is-atom-end-2 c = search needs
-
-slice-aggregate-is-atom-2 : tie.Need-slice-aggregate-is-atom-2
-slice-aggregate-is-atom-2 c = search needs
-
-is-atom-requires-2 : tie.Need-is-atom-requires-2
-is-atom-requires-2 c κs = search needs
-
-sexp-length-requires-2 : tie.Need-sexp-length-requires-2
-sexp-length-requires-2 c κs = search needs
-
-with-one-requires : tie.Need-with-one-requires
-with-one-requires c κs = search needs
+returns c =
+    let d = c .before .before in
+    plans-q (heads "q" (start d .pre) (d .is-atom .ensures) refl (c .before .if1 .taken)) (c .sexp-length .ensures)
 
 returns-2 : tie.Need-returns-2
-unfolding ascii
-returns-2 c = plans-quote (c .before .before .before .before .before .before .before .before .before .before .before .pre) (c .before .before .before .before .before .before .before .is-atom .ensures) refl (c .before .before .before .before .before .before .if1 .left) (c .before .before .before .is-atom2 .ensures) refl (c .before .sexp-length2 .ensures) (c .before .before .if2 .taken) (c .with-one .ensures)
-
-sub-is-atom-3 : tie.Need-sub-is-atom-3
-sub-is-atom-3 c = search needs
-
-part-is-atom-start-3 : tie.Need-part-is-atom-start-3
-part-is-atom-start-3 c = search needs
-
-part-is-atom-end-3 : tie.Need-part-is-atom-end-3
-part-is-atom-end-3 c = search needs
-
-slice-aggregate-is-atom-3 : tie.Need-slice-aggregate-is-atom-3
-slice-aggregate-is-atom-3 c = search needs
-
-is-atom-requires-3 : tie.Need-is-atom-requires-3
-is-atom-requires-3 c κs = search needs
-
-sexp-length-requires-3 : tie.Need-sexp-length-requires-3
-sexp-length-requires-3 c κs = search needs
-
-with-one-requires-2 : tie.Need-with-one-requires-2
-with-one-requires-2 c κs = search needs
+returns-2 c =
+    let d = c .before .before in
+    let i = d .before in
+    plans-quote (not-q (second (i .before))) (d .single .ensures) (c .before .sexp-length2 .ensures) (quote i) (c .if3 .taken)
 
 returns-3 : tie.Need-returns-3
-unfolding ascii
-returns-3 c = plans-qq (c .before .before .before .before .before .before .before .before .before .before .before .before .before .before .before .before .pre) (c .before .before .before .before .before .before .before .before .before .before .before .before .is-atom .ensures) refl (c .before .before .before .before .before .before .before .before .before .before .before .if1 .left) (c .before .before .before .before .before .before .before .before .is-atom2 .ensures) refl (c .before .sexp-length3 .ensures) (c .before .before .before .before .before .before .before .if2 .left) (λ l h u w a. both-true (is-atom "qq" h) _ (sym (head-word (c .before .before .before .before .before .before .before .before .before .before .before .before .before .before .before .before .pre) (c .before .before .before .is-atom3 .ensures) "qq" refl l h u w a) ∙ c .before .before .if4 .taken) (c .before .before .before .before .before .before .if3 .taken)) (c .with-one2 .ensures)
+returns-3 c =
+    let d = c .before .before in
+    let i = d .before in
+    plans-quote-none (not-q (second (i .before))) (d .single .ensures) (c .before .sexp-length2 .ensures) (quote i) (c .if3 .left)
 
 returns-4 : tie.Need-returns-4
-unfolding ascii
-returns-4 c = plans-go-on (c .before .before .before .before .before .before .before .before .before .before .before .before .before .before .pre) (c .before .before .before .before .before .before .before .before .before .before .is-atom .ensures) refl (c .before .before .before .before .before .before .before .before .before .if1 .left) (c .before .before .before .before .before .before .is-atom2 .ensures) refl (c .before .before .before .before .before .if2 .left) (λ l h u w a. false-and (is-atom "qq" h) _ (sym (head-word (c .before .before .before .before .before .before .before .before .before .before .before .before .before .before .pre) (c .before .is-atom3 .ensures) "qq" refl l h u w a) ∙ c .if4 .left))
+returns-4 c =
+    let d = c .before .before in
+    let i = d .before in
+    let g = third (i .before) in
+    let n = g .before in
+    plans-qq (not-q (second (n .before))) (d .single2 .ensures) (c .before .sexp-length3 .ensures) (not-quote n) (looks (qq i) (g .if4 .taken)) (c .if6 .taken)
 
 returns-5 : tie.Need-returns-5
+returns-5 c =
+    let d = c .before .before in
+    let i = d .before in
+    let g = third (i .before) in
+    let n = g .before in
+    plans-qq-none (not-q (second (n .before))) (d .single2 .ensures) (c .before .sexp-length3 .ensures) (not-quote n) (looks (qq i) (g .if4 .taken)) (c .if6 .left)
+
+returns-6 : tie.Need-returns-6
 unfolding ascii
-returns-5 c = plans-go-on (c .before .before .before .before .before .before .before .before .before .before .pre) (c .before .before .before .before .before .before .is-atom .ensures) refl (c .before .before .before .before .before .if1 .left) (c .before .before .is-atom2 .ensures) refl (c .before .if2 .left) (λ l h u w a. and-false (is-atom "qq" h) _ (c .if3 .left))
+returns-6 c =
+    let n = third (c .before) .before in
+    let s = first n in
+    plans-go-on (not-q (second (n .before))) (not-quote n) (no-qq (s .args .qq) (heads "qq" (s .pre) (c .before .is-atom3 .ensures) refl (c .if5 .left)))
+
+returns-7 : tie.Need-returns-7
+returns-7 c = let n = c .before in plans-go-on (not-q (second (n .before))) (not-quote n) (not-looked (c .if4 .left))
 
 pub in-cons-spec : {M : Type 1} → statement M
 in-cons-spec =
     tie.close
     (tie.spec
-    sub-is-atom
-    part-is-atom-start
-    part-is-atom-end
-    slice-aggregate-is-atom
-    is-atom-requires
-    sexp-length-requires
+    (λ c. search needs)
+    (λ c. search needs)
+    (λ c. search needs)
+    (λ c. search needs)
+    (λ c κs. search needs)
+    (λ c κs. search needs)
     returns
-    sub-is-atom-2
-    part-is-atom-start-2
-    part-is-atom-end-2
-    slice-aggregate-is-atom-2
-    is-atom-requires-2
-    sexp-length-requires-2
-    with-one-requires
+    (λ c. search needs)
+    (λ c. search needs)
+    (λ c. search needs)
+    (λ c. search needs)
+    (λ c κs. search needs)
+    (λ c κs. search needs)
+    (λ c κs. search needs)
     returns-2
-    sub-is-atom-3
-    part-is-atom-start-3
-    part-is-atom-end-3
-    slice-aggregate-is-atom-3
-    is-atom-requires-3
-    sexp-length-requires-3
-    with-one-requires-2
     returns-3
+    (λ c. search needs)
+    (λ c. search needs)
+    (λ c. search needs)
+    (λ c. search needs)
+    (λ c κs. search needs)
+    (λ c κs. search needs)
+    (λ c κs. search needs)
     returns-4
-    returns-5)
+    returns-5
+    returns-6
+    returns-7)

@@ -5,9 +5,6 @@ use Rattle.substitution.proofs.Onlys.{head-at, leaf-inside, leaf-outsid
 use Rattle.substitution.proofs.plans.plan_of.Statement.{statement}
 use Rattle.substitution.proofs.plans.plan_of.Tie as tie
 
-sexp-view-requires : tie.Need-sexp-view-requires
-sexp-view-requires c κs = search needs
-
 returns : tie.Need-returns
 returns c = leaf-inside (c .before .before .before .sexp-view .ensures) (c .before .if1 .taken) (c .if2 .taken)
 
@@ -30,7 +27,7 @@ pub plan-of-spec : {M : Type 1} → statement M
 plan-of-spec =
     tie.close
     (tie.spec
-    sexp-view-requires
+    (λ c κs. search needs)
     returns
     returns-2
     in-qq-requires

@@ -11,11 +11,13 @@ use Rattle.records.specs.Records.{sexp-bytes}
 use Rattle.records.specs.declared.Step.{Step}
 use Rattle.records.specs.declared.Step.the-variants.{Done}
 use Rattle.substitution.specs.Arena.{head-width}
-use Rattle.substitution.specs.Plans.{Alone}
+use Rattle.substitution.specs.Plans.{Lone, Plans}
+use Rattle.substitution.specs.declared.Plan.{Plan}
+use Rattle.substitution.specs.declared.Plan.the-variants.{Kept, ByMap, Requoted, Alone, Parts}
 use Rattle.substitution.proofs.MapLaws.{map-of-part, map-after}
 use Rattle.substitution.proofs.Pairs.{Pair, pair-of, One, one, First, first, start-at}
 use Rattle.substitution.proofs.Pairs.{no-room, first-refused, second-refused, second-fits, both-done}
-use Rattle.substitution.proofs.PlanLaws.{plan-whole, plan-alone, plan-pairs, kept-whole, renamed-atom, alone-refused, alone-done}
+use Rattle.substitution.proofs.PlanLaws.{plan-says, plan-pairs, kept-whole, renamed-atom, alone-refused, alone-done}
 use borrow.Fn.Kinds.{In}
 use borrow.Fn.PlainCycle.{Measures, is, falls, and}
 use Rattle.substitution.proofs.substitute.alone.Reads as alone
@@ -90,10 +92,10 @@ module _ (t : ℕ) where
   alone-start c = c .before .before .before
 
   element : (c : alone-lts.Start (alone-calls t) (alone-at t) alone.Post)
-      → Alone (c .args .inside) (c .args .qq) (c .args .mem .now) (c .pre .1 .0 .0) (c .args .p .at)
+      → Lone (c .args .inside) (c .args .qq) (c .args .mem .now) (c .pre .1 .0 .0) (c .args .at)
   element c =
       let p = c .pre .1 in
-      plan-alone (c .args .inside) (c .args .qq) (p .1 .1 .1 .0) (p .0 .0) (p .0 .1 .fields) (p .0 .1 .there) (p .1 .1 .1 .1) .1
+      plan-says (c .args .inside) (c .args .qq) (p .1 .1 .1) (p .0 .0) (p .0 .1 .fields) (p .0 .1 .there) .1
 
   alone-sub-rename : alone-lts.Need-sub-rename (alone-calls t) (alone-at t) alone.Post
   alone-sub-rename c = let k = element (c .before) in omega (arith, k .there .fits)
@@ -109,7 +111,7 @@ module _ (t : ℕ) where
       let s = c .before .before in
       let k = element s in
       let mem = s .args .mem .now in
-      let at = s .args .p .at in
+      let at = s .args .at in
       let p = s .pre .1 in
       let l = part-length mem at (length mem - at) (omega (arith, k .there .fits)) in
       let below : length (sexp-bytes (k .x)) ≤ s .args .free - at = omega (arith, k .within, p .0 .1 .below) in
@@ -122,7 +124,7 @@ module _ (t : ℕ) where
       let d = c .before .before .before .before .before in
       let s = alone-start d in
       let p = s .pre .1 in
-      alone-refused (s .args .inside) (s .args .qq) (p .1 .1 .1 .0) (s .args .f) (s .args .counter) (p .1 .1 .1 .1) (p .0 .1) (p .1 .1 .0)
+      alone-refused (s .args .inside) (s .args .qq) (s .args .f) (s .args .counter) (p .1 .1 .1) (p .0 .1) (p .1 .1 .0)
       (d .rename .ensures) _ _ (c .before .k .given .1)
 
   alone-returns-2 : alone-lts.Need-returns-2 (alone-calls t) (alone-at t) alone.Post
@@ -130,7 +132,7 @@ module _ (t : ℕ) where
       let d = c .before .before .before .before .before in
       let s = alone-start d in
       let p = s .pre .1 in
-      alone-done (s .args .inside) (s .args .qq) (p .1 .1 .1 .0) (s .args .f) (s .args .counter) (p .1 .1 .1 .1) (p .0 .1) (p .1 .1 .0)
+      alone-done (s .args .inside) (s .args .qq) (s .args .f) (s .args .counter) (p .1 .1 .1) (p .0 .1) (p .1 .1 .0)
       (d .rename .ensures) _ _ _ (c .before .w .given .1)
 
   -- `pair`: from a place back to an earlier one
@@ -297,50 +299,64 @@ module _ (t : ℕ) where
   abbrev rename-start : rename-lts.After-plan-of (rename-calls t) (rename-at t) rename.Post → rename-lts.Start (rename-calls t) (rename-at t) rename.Post
   rename-start c = c .before .before .before
 
+  -- the plan, where it is told which one it is
+  abbrev Told : rename-lts.After-plan-of (rename-calls t) (rename-at t) rename.Post → Plan → Type 0
+  Told c = let a = rename-start c .args in Plans (a .inside) (a .qq) (a .mem .now)
+
+  kept : (c : rename-lts.After-n (rename-calls t) (rename-at t) rename.Post) → Told (c .before .before) (Kept (c .n .given .0 .0))
+  kept c = let d = c .before .before in subst (Told d) (c .n .given .1) (d .plan-of .ensures)
+
+  by-map : (c : rename-lts.After-enum-told (rename-calls t) (rename-at t) rename.Post) → Told (c .before .before) ByMap
+  by-map c = let d = c .before .before in subst (Told d) (c .enum-told .given .1) (d .plan-of .ensures)
+
+  requoted : (c : rename-lts.After-at (rename-calls t) (rename-at t) rename.Post) → Told (c .before .before) (Requoted (c .at .given .0 .0) (c .at .given .0 .1 .0))
+  requoted c = let d = c .before .before in subst (Told d) (c .at .given .1) (d .plan-of .ensures)
+
+  lone : (c : rename-lts.After-at2 (rename-calls t) (rename-at t) rename.Post) → Told (c .before .before) (Alone (c .at2 .given .0 .0) (c .at2 .given .0 .1 .0))
+  lone c = let d = c .before .before in subst (Told d) (c .at2 .given .1) (d .plan-of .ensures)
+
+  parts : (c : rename-lts.After-enum-told2 (rename-calls t) (rename-at t) rename.Post) → Told (c .before .before) Parts
+  parts c = let d = c .before .before in subst (Told d) (c .enum-told2 .given .1) (d .plan-of .ensures)
+
   rename-keep-requires : rename-lts.Need-keep-requires (rename-calls t) (rename-at t) rename.Post
   rename-keep-requires c κs =
-      let d = c .before .before in
-      let s = rename-start d in
+      let n = c .before .before in
+      let s = rename-start (n .before .before) in
       let p = s .pre .1 in
-      let y = plan-whole (s .args .inside) (s .args .qq) (d .plan-of .ensures) (p .0 .0) (p .0 .1 .fields) (p .0 .1 .there) (c .before .match .keys1) in
-      (omega (arith, y .size, p .0 .1 .below), omega (arith, p .1 .1))
+      let y = plan-says (s .args .inside) (s .args .qq) (kept n) (p .0 .0) (p .0 .1 .fields) (p .0 .1 .there) in
+      (omega (arith, y .0, p .0 .1 .below), omega (arith, p .1 .1))
 
   rename-requote-requires : rename-lts.Need-requote-requires (rename-calls t) (rename-at t) rename.Post
   rename-requote-requires c κs =
-      let d = c .before .before in
-      let p = rename-start d .pre .1 in
-      (p .0, (omega (arith, p .1 .1), (d .plan-of .ensures, c .before .match .keys3)))
+      let n = c .before .before in
+      let p = rename-start (n .before .before) .pre .1 in
+      (p .0, (omega (arith, p .1 .1), requoted n))
 
   rename-alone-requires : rename-lts.Need-alone-requires (rename-calls t) (rename-at t) rename.Post
   rename-alone-requires c κs =
-      let d = c .before .before in
-      let s = rename-start d in
+      let n = c .before .before in
+      let s = rename-start (n .before .before) in
       let p = s .pre .1 in
-      (omega (arith, s .pre .0), (p .0, (p .1 .0, (p .1 .1, (d .plan-of .ensures, c .before .match .keys4)))))
+      (omega (arith, s .pre .0), (p .0, (p .1 .0, (p .1 .1, lone n))))
 
   rename-pair-requires : rename-lts.Need-pair-requires (rename-calls t) (rename-at t) rename.Post
   rename-pair-requires c κs =
-      let d = c .before .before in
-      let s = rename-start d in
-      let a = s .args in
+      let n = c .before in
+      let s = rename-start (n .before .before) in
       let p = s .pre .1 in
-      let n = c .before .match .rest in
-      let goes = plan-pairs (a .inside) (a .qq) (d .plan-of .ensures) (n .0 .0 .0 .1) (n .0 .0 .1) (n .0 .1) (n .1) in
-      (omega (arith, s .pre .0), (p .0, (p .1 .0, (p .1 .1, goes))))
+      (omega (arith, s .pre .0), (p .0, (p .1 .0, (p .1 .1, plan-pairs (s .args .inside) (s .args .qq) (parts n)))))
 
   rename-returns : rename-lts.Need-returns (rename-calls t) (rename-at t) rename.Post
   rename-returns c =
-      let n = c .before .before .before .before in
-      let d = n .before in
-      let a = rename-start d .args in
-      kept-whole (a .inside) (a .qq) (d .plan-of .ensures) (a .f) (a .counter) (n .match .keys1) (c .before .before .keep .ensures .0)
+      let n = c .before .before .before .before .before in
+      let a = rename-start (n .before .before) .args in
+      kept-whole (a .inside) (a .qq) (a .f) (a .counter) (kept n) (c .before .before .keep .ensures .0)
 
   rename-returns-2 : rename-lts.Need-returns-2 (rename-calls t) (rename-at t) rename.Post
   rename-returns-2 c =
       let n = c .before .before .before .before in
-      let d = n .before in
-      let a = rename-start d .args in
-      renamed-atom (a .inside) (a .qq) (d .plan-of .ensures) (a .f) (a .counter) (n .match .keys2) (c .before .before .rename-atom .ensures)
+      let a = rename-start (n .before .before) .args in
+      renamed-atom (a .inside) (a .qq) (a .f) (a .counter) (by-map n) (c .before .before .rename-atom .ensures)
 
   rename-returns-3 : rename-lts.Need-returns-3 (rename-calls t) (rename-at t) rename.Post
   rename-returns-3 c = λ m at. c .before .before .requote .ensures m
@@ -402,10 +418,15 @@ pub +alone+pair+rename-spec : {M : Type 1} → statement M
     (rename-at t)
     rename.Post
     (λ c κs. search needs)
+    (λ c. search needs)
     (rename-keep-requires t)
+    (λ c. search needs)
     (λ c κs. search needs)
+    (λ c. search needs)
     (rename-requote-requires t)
+    (λ c. search needs)
     (rename-alone-requires t)
+    (λ c. search needs)
     (rename-pair-requires t)
     (λ c. search needs)
     (rename-returns t)

@@ -25,15 +25,15 @@ abbrev located : tie.After-put → tie.After-copy2
 located c = c .before .before .before .before .before
 
 -- v, and its length
-here : (c : tie.Start) → Seen (c .args .inside) (c .args .qq) (c .pre .1 .1 .0) (c .pre .1 .1 .1) (c .pre .0 .0)
-here c = seen (c .args .inside) (c .args .qq) (c .pre .1 .1 .0) (c .pre .1 .1 .1) (c .pre .0 .0) (c .pre .0 .1 .fields) (c .pre .0 .1 .there)
+here : (c : tie.Start) → Seen (c .args .inside) (c .args .qq) (c .pre .1 .1) (c .pre .0 .0)
+here c = seen (c .args .inside) (c .args .qq) (c .pre .1 .1) (c .pre .0 .0) (c .pre .0 .1 .fields) (c .pre .0 .1 .there)
 
 size : (c : tie.After-sexp-length) → c .sexp-length .result ≡ length (sexp-bytes (here (start c) .v))
-size c = let s = start c in measured (s .args .inside) (s .args .qq) (s .pre .1 .1 .0) (s .pre .1 .1 .1) (c .sexp-length .ensures) (here s)
+size c = let s = start c in measured (s .args .inside) (s .args .qq) (s .pre .1 .1) (c .sexp-length .ensures) (here s)
 
 -- the result fits
 room : (c : tie.Else1)
-    → start (c .before) .args .free + (start (c .before) .args .p .at + c .before .sexp-length .result + head-width) ≤ length (start (c .before) .args .mem .now)
+    → start (c .before) .args .free + (start (c .before) .args .at + c .before .sexp-length .result + head-width) ≤ length (start (c .before) .args .mem .now)
 room c = omega (arith, c .if1 .left, start (c .before) .pre .1 .0)
 
 add-loc : tie.Need-add-loc
@@ -55,7 +55,7 @@ returns : tie.Need-returns
 returns c =
     let s = start (c .before) in
     let a = s .args in
-    requote-long (a .inside) (a .qq) (s .pre .1 .1 .0) (s .pre .1 .1 .1) (c .before .sexp-length .ensures) (a .f) (a .counter) (c .if1 .taken)
+    requote-long (a .inside) (a .qq) (s .pre .1 .1) (c .before .sexp-length .ensures) (a .f) (a .counter) (c .if1 .taken)
 
 copy-requires : tie.Need-copy-requires
 copy-requires c κs =
@@ -91,7 +91,7 @@ returns-2 c =
     let n = sized e in
     let s = start n in
     let a = s .args in
-    requote-done (a .inside) (a .qq) (s .pre .1 .1 .0) (s .pre .1 .1 .1) (n .sexp-length .ensures) (a .f) (a .counter) (s .pre .0 .1)
+    requote-done (a .inside) (a .qq) (s .pre .1 .1) (n .sexp-length .ensures) (a .f) (a .counter) (s .pre .0 .1)
     (e .before .before .if1 .left) (s .pre .1 .0) (e .copy .ensures) (g .copy2 .ensures) (p .put .ensures) (d .copy3 .ensures)
 
 pub requote-spec : {M : Type 1} → statement M
