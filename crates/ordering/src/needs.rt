@@ -17,7 +17,7 @@ use views::past::tagged_view;
 use views::sexps::all_zero;
 use views::sexps::sexp_view;
 use views::skip::skip;
-ghost use mathlib.Core.Bool.{true, not};
+ghost use mathlib.Core.Bool.{true};
 ghost use mathlib.Core.List.{[], _∷_};
 ghost use mathlib.Core.Path.{_≡_};
 ghost use Prim.Native.Nat.{_≤_};

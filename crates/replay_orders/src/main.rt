@@ -7,13 +7,14 @@
 mod order;
 
 use libc::STDIN_FILENO;
-use libc::STDOUT_FILENO;
 use names::bytes::number;
 use order::Case;
 use order::agrees;
 use ordering::BINDING_LIMIT;
 use records::MOST_LONGEST;
 use records::WORK_FACTOR;
+use replays::Outcome;
+use replays::reads;
 
 // The bytes of a case before those written and the input.
 const HEAD: usize = 19;
@@ -23,19 +24,6 @@ const WORK: usize = WORK_FACTOR * MOST_LONGEST;
 
 // The most bytes that a length of one byte can announce.
 const MOST_RESULT: usize = 255;
-
-// What came of one case.
-enum Outcome {
-    Agrees,
-    Differs,
-    CutOff,
-    Ended,
-}
-
-// Whether the bytes that fill a buffer can be read.
-fn reads(buf: &mut [u8]) -> bool {
-    io::read_full(STDIN_FILENO, buf) == buf.len()
-}
 
 // What a case gives and must get.
 fn case_of(head: &[u8; HEAD]) -> Case {
@@ -51,11 +39,7 @@ fn case_of(head: &[u8; HEAD]) -> Case {
 fn judged(head: &[u8; HEAD], work: &mut [u8], wanted: &[u8], input: &[u8]) -> Outcome {
     let mut result = [0u8; MOST_RESULT];
     let n = number(head, 10, 1);
-    if agrees(case_of(head), work, input, wanted, &mut result[..n]) {
-        Outcome::Agrees
-    } else {
-        Outcome::Differs
-    }
+    replays::judged(agrees(case_of(head), work, input, wanted, &mut result[..n]))
 }
 
 // Reads what follows the head of a case, and has the call answer it.
@@ -91,31 +75,9 @@ fn next(work: &mut [u8], buf: &mut [u8]) -> Outcome {
     rest(&head, work, &mut wanted, buf)
 }
 
-// Says of the case after `done` others what is wrong with it.
-fn fault(done: u64, what: &[u8]) {
-    io::write_all(STDOUT_FILENO, b"after ");
-    io::print_decimal(STDOUT_FILENO, done);
-    io::write_all(STDOUT_FILENO, b" order cases that agree, the next ");
-    io::write_all(STDOUT_FILENO, what);
-}
-
-fn all_agree(done: u64) {
-    io::print_decimal(STDOUT_FILENO, done);
-    io::write_all(STDOUT_FILENO, b" order cases agree\n");
-}
-
 // Replays the case after `done` others, and answers whether to go on.
 fn goes_on(work: &mut [u8], buf: &mut [u8], done: u64) -> bool {
-    let outcome = next(work, buf);
-    match outcome {
-        Outcome::Agrees => {
-            return true;
-        }
-        Outcome::Ended => all_agree(done),
-        Outcome::Differs => fault(done, b"does not\n"),
-        Outcome::CutOff => fault(done, b"is cut off\n"),
-    }
-    false
+    replays::goes_on(next(work, buf), done, b" order")
 }
 
 // A proved loop has to end, and nothing says that the input does. So the loop counts, up to a

@@ -2,9 +2,8 @@
 use names::Answer;
 use names::bytes::same;
 use ordering::call::order_call;
-
-// What the result buffer is filled with before the call.
-const FILL: u8 = 7;
+use replays::fill;
+use replays::untouched;
 
 // What a case gives the call beside its input, and the number and place that it must get.
 pub struct Case {
@@ -12,26 +11,6 @@ pub struct Case {
     pub counter: u64,
     pub number: u32,
     pub place: u64,
-}
-
-fn fill(result: &mut [u8]) {
-    let mut i = 0;
-    while i < result.len() {
-        result[i] = FILL;
-        i += 1;
-    }
-}
-
-// Whether no byte differs from what the buffer was filled with.
-fn untouched(rest: &[u8]) -> bool {
-    let mut i = 0;
-    while i < rest.len() {
-        if rest[i] != FILL {
-            return false;
-        }
-        i += 1;
-    }
-    true
 }
 
 // Whether a byte stands in a list.

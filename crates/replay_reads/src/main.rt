@@ -5,16 +5,9 @@
 mod reader;
 
 use libc::STDIN_FILENO;
-use libc::STDOUT_FILENO;
 use reader::agrees;
-
-// What came of one case.
-enum Outcome {
-    Agrees,
-    Differs,
-    CutOff,
-    Ended,
-}
+use replays::Outcome;
+use replays::reads;
 
 // The number of one byte.
 fn one(byte: u8) -> u32 {
@@ -28,20 +21,16 @@ fn two(high: u8, low: u8) -> usize {
 
 // Reads the input of a case into a buffer of its length, and has the reader answer it.
 fn judged(head: &[u8; 8], input: &mut [u8]) -> Outcome {
-    if io::read_full(STDIN_FILENO, input) < input.len() {
+    if !reads(input) {
         return Outcome::CutOff;
     }
-    if agrees(
+    replays::judged(agrees(
         head[0],
         two(head[2], head[3]),
         one(head[1]),
         two(head[4], head[5]) as u64,
         input,
-    ) {
-        Outcome::Agrees
-    } else {
-        Outcome::Differs
-    }
+    ))
 }
 
 // Reads the next case and has the reader answer it.
@@ -61,31 +50,9 @@ fn next(buf: &mut [u8]) -> Outcome {
     judged(&head, &mut buf[..len])
 }
 
-// Says of the case after `done` others what is wrong with it.
-fn fault(done: u64, what: &[u8]) {
-    io::write_all(STDOUT_FILENO, b"after ");
-    io::print_decimal(STDOUT_FILENO, done);
-    io::write_all(STDOUT_FILENO, b" reading cases that agree, the next ");
-    io::write_all(STDOUT_FILENO, what);
-}
-
-fn all_agree(done: u64) {
-    io::print_decimal(STDOUT_FILENO, done);
-    io::write_all(STDOUT_FILENO, b" reading cases agree\n");
-}
-
 // Replays the case after `done` others, and answers whether to go on.
 fn goes_on(buf: &mut [u8], done: u64) -> bool {
-    let outcome = next(buf);
-    match outcome {
-        Outcome::Agrees => {
-            return true;
-        }
-        Outcome::Ended => all_agree(done),
-        Outcome::Differs => fault(done, b"does not\n"),
-        Outcome::CutOff => fault(done, b"is cut off\n"),
-    }
-    false
+    replays::goes_on(next(buf), done, b" reading")
 }
 
 // A proved loop has to end, and nothing says that the input does. So the loop counts, up to a

@@ -10,9 +10,10 @@
 mod sexps;
 
 use libc::STDIN_FILENO;
-use libc::STDOUT_FILENO;
 use names::bytes::number;
 use records::MOST_LONGEST;
+use replays::Outcome;
+use replays::reads;
 use sexps::Case;
 use sexps::FACTOR;
 use sexps::agrees;
@@ -27,19 +28,6 @@ const PARTS: usize = 3 * 65535;
 
 // Memory for the longest input with its map, and the most bytes that a result can take.
 const MEMORY: usize = FACTOR * MOST_LONGEST + 65535;
-
-// What came of one case.
-enum Outcome {
-    Agrees,
-    Differs,
-    CutOff,
-    Ended,
-}
-
-// Whether the bytes that fill a buffer can be read.
-fn reads(buf: &mut [u8]) -> bool {
-    io::read_full(STDIN_FILENO, buf) == buf.len()
-}
 
 // What a case gives and must get.
 fn case_of(head: &[u8; HEAD]) -> Case {
@@ -60,11 +48,7 @@ fn judged(head: &[u8; HEAD], mem: &mut [u8], parts: &[u8], result: usize, input:
 {
     let map = &parts[..result];
     let wanted = &parts[result..input];
-    if agrees(case_of(head), mem, &parts[input..], map, wanted) {
-        Outcome::Agrees
-    } else {
-        Outcome::Differs
-    }
+    replays::judged(agrees(case_of(head), mem, &parts[input..], map, wanted))
 }
 
 // Reads what follows the head of a case, and has the calls answer it.
@@ -94,31 +78,9 @@ fn next(mem: &mut [u8], buf: &mut [u8]) -> Outcome {
     rest(&head, mem, buf)
 }
 
-// Says of the case after `done` others what is wrong with it.
-fn fault(done: u64, what: &[u8]) {
-    io::write_all(STDOUT_FILENO, b"after ");
-    io::print_decimal(STDOUT_FILENO, done);
-    io::write_all(STDOUT_FILENO, b" S record cases that agree, the next ");
-    io::write_all(STDOUT_FILENO, what);
-}
-
-fn all_agree(done: u64) {
-    io::print_decimal(STDOUT_FILENO, done);
-    io::write_all(STDOUT_FILENO, b" S record cases agree\n");
-}
-
 // Replays the case after `done` others, and answers whether to go on.
 fn goes_on(mem: &mut [u8], buf: &mut [u8], done: u64) -> bool {
-    let outcome = next(mem, buf);
-    match outcome {
-        Outcome::Agrees => {
-            return true;
-        }
-        Outcome::Ended => all_agree(done),
-        Outcome::Differs => fault(done, b"does not\n"),
-        Outcome::CutOff => fault(done, b"is cut off\n"),
-    }
-    false
+    replays::goes_on(next(mem, buf), done, b" S record")
 }
 
 // A proved loop has to end, and nothing says that the input does. So the loop counts, up to a

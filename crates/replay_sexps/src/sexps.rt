@@ -8,6 +8,8 @@ use records::WORK_FACTOR;
 use records::Wanted;
 use records::input::open_input;
 use records::record::body_mark;
+use replays::fill;
+use replays::untouched;
 use substitution::Invented;
 use substitution::invent::invent_new_names_sexp;
 use substitution::substitute::rename_atom;
@@ -22,9 +24,6 @@ ghost use Rattle.names.specs.Segments.{At};
 ghost use Rattle.records.specs.Records.{Sexp, Form};
 ghost use Rattle.replay_sexps.specs.Cases.{Taken, FormIn, SexpsIn, Ready};
 ghost use Rattle.substitution.specs.Arena.{MapAt, SexpAtStart};
-
-// What memory is filled with behind the input.
-const FILL: u8 = 7;
 
 // The length of work memory that is enough for every F.
 const WORK: usize = WORK_FACTOR * MOST_LONGEST;
@@ -54,14 +53,6 @@ struct Places {
     target: usize,
 }
 
-fn fill(mem: &mut [u8]) {
-    let mut i = 0;
-    while i < mem.len() {
-        mem[i] = FILL;
-        i += 1;
-    }
-}
-
 // Fills memory, with the input at its front.
 fn load(mem: &mut [u8], input: &[u8])
     requires { ⌜ length (now input) ≤ length (now mem) ⌝ }
@@ -69,18 +60,6 @@ fn load(mem: &mut [u8], input: &[u8])
 {
     fill(mem);
     put(mem, 0, input);
-}
-
-// Whether no byte differs from what memory was filled with.
-fn untouched(rest: &[u8]) -> bool {
-    let mut i = 0;
-    while i < rest.len() {
-        if rest[i] != FILL {
-            return false;
-        }
-        i += 1;
-    }
-    true
 }
 
 // Whether memory holds what it must: the input at its front, what it was filled with from a place up
@@ -114,7 +93,7 @@ fn substitute(rule: u8, mem: &mut [u8], free: usize, len: usize, f: usize, count
     match rule {
         0 => rename_in_cons(mem, free, len, false, f, counter),
         1 => rename_in_cons(mem, free, len, true, f, counter),
-        2 => rename_in_qq(mem, free, len, true, f, counter),
+        2 => rename_in_qq(mem, free, len, f, counter),
         _ => rename_atom(mem, free, len, f, counter),
     }
 }

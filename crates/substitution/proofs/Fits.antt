@@ -3,7 +3,7 @@ use mathlib.Core.Path.{_≡_, refl, sym, ap, subst, _∙_}
 use mathlib.Core.Bool.{Bool, true, false}
 use mathlib.Core.List.{_++_}
 use native.Mathlib.Omega.{arith}
-use borrow.Author.Tests.{leb-true, leb-false}
+use borrow.Author.Tests.{le-leb, lt-leb, leb-true, leb-false}
 use Prim.Native.Nat.{ℕ, _+_, _-_, _≤_, _<_}
 use lib.Dec.{leb}
 use lib.ListN.{length, length-append}
@@ -15,24 +15,31 @@ use Rattle.records.specs.declared.Step.{Step}
 use Rattle.records.specs.declared.Step.the-variants.{Done, Refused}
 use Rattle.records.proofs.Answers.{made, unmade}
 use Rattle.substitution.specs.Arena.{fitting}
-use Rattle.substitution.proofs.Substitutes.{fitting-fits, fitting-long}
 
 module _ {A : Type 0} (bytes : A → Bytes) (f c : ℕ) (u : A) where
+  pub fitting-fits : length (bytes u) ≤ f → fitting bytes f c u ≡ gives u c
+  unfolding fitting
+  fitting-fits le = rw (le-leb _ _ le, fitting)
+
+  pub fitting-long : f < length (bytes u) → fitting bytes f c u ≡ refuses 7 0
+  unfolding fitting
+  fitting-long lt = rw (lt-leb _ _ lt, fitting)
+
   -- by whether it fits
-  pub fitting-cases : (P : Outcome A → Type 0) → (length (bytes u) ≤ f → P (gives u c)) → (f < length (bytes u) → P (refuses 7 0)) → P (fitting bytes f c u)
+  fitting-cases : (P : Outcome A → Type 0) → (length (bytes u) ≤ f → P (gives u c)) → (f < length (bytes u) → P (refuses 7 0)) → P (fitting bytes f c u)
   fitting-cases P y n = go (leb (length (bytes u)) f) refl
     where
       go : (b : Bool) → leb (length (bytes u)) f ≡ b → P (fitting bytes f c u)
-      go true e = let le : length (bytes u) ≤ f = leb-true _ _ e in subst P (sym (fitting-fits bytes f c u le)) (y le)
-      go false e = let lt : f < length (bytes u) = leb-false _ _ e in subst P (sym (fitting-long bytes f c u lt)) (n lt)
+      go true e = let le : length (bytes u) ≤ f = leb-true _ _ e in subst P (sym (fitting-fits le)) (y le)
+      go false e = let lt : f < length (bytes u) = leb-false _ _ e in subst P (sym (fitting-long lt)) (n lt)
 
   -- it is given
-  pub record Fitted (w : A) (d : ℕ) : Type 0 where
-    pub same-tree : w ≡ u
-    pub same-counter : d ≡ c
-    pub short : length (bytes u) ≤ f
+  record Fitted (w : A) (d : ℕ) : Type 0 where
+    same-tree : w ≡ u
+    same-counter : d ≡ c
+    short : length (bytes u) ≤ f
 
-  pub fitted : (w : A) (d : ℕ) → fitting bytes f c u ≡ gives w d → Fitted w d
+  fitted : (w : A) (d : ℕ) → fitting bytes f c u ≡ gives w d → Fitted w d
   fitted w d = fitting-cases (λ o. o ≡ gives w d → Fitted w d) (λ le e. record { same-tree = cc; same-counter = cc; short = le })
       (λ lt e. let z : _≡_ {A = ℕ} 0 1 = cc in absurd (omega arith))
 
@@ -45,6 +52,27 @@ module _ {A : Type 0} (bytes : A → Bytes) (f c : ℕ) (u : A) where
   pub too-long : (k p : ℕ) → fitting bytes f c u ≡ refuses k p → TooLong k p
   too-long k p = fitting-cases (λ o. o ≡ refuses k p → TooLong k p) (λ le e. let z : _≡_ {A = ℕ} 0 1 = cc in absurd (omega arith))
       (λ lt e. record { number = cc; place = cc; long = lt })
+
+-- it was given, and stands at p
+pub record Given {A : Type 0} (bytes : A → Bytes) (new : Bytes) (p size f c : ℕ) (u : A) (i j d : ℕ) : Type 0 where
+  pub read : i ≡ size
+  pub wrote : j ≡ length (bytes u)
+  pub counter : d ≡ c
+  pub short : length (bytes u) ≤ f
+  pub out : At new p (bytes u)
+
+pub given : {A : Type 0} {bytes : A → Bytes} {new : Bytes} {p size : ℕ} {r : Step} (f c : ℕ) (u : A) (i j d : ℕ) → r ≡ Done i j d
+    → Gives bytes new p size (fitting bytes f c u) r → Given bytes new p size f c u i j d
+given {A} {bytes} {new} {p} f c u i j d e x =
+    let m = made i j d e x in
+    let y = fitted bytes f c u (m .u) d (m .is) in
+    record {
+      read = m .read;
+      wrote = m .wrote ∙ ap (λ (z : A). length (bytes z)) (y .same-tree);
+      counter = y .same-counter;
+      short = y .short;
+      out = subst (λ (z : A). At new p (bytes z)) (y .same-tree) (m .out);
+    }
 
 pub done-is : {a b c x y z : ℕ} → a ≡ x → b ≡ y → c ≡ z → _≡_ {A = Step} (Done a b c) (Done x y z)
 done-is p q r = cc
@@ -73,18 +101,11 @@ module _ {A B : Type 0} {f : A → Bytes} {g : B → Bytes} {head : Bytes} {h : 
 
     -- what was read and written of u
     pub read-wrote : (i j d : ℕ) → r ≡ Done i j d → (i ≡ size) × (h + j ≤ F)
-    read-wrote i j d e =
-        let m = made i j d e x in
-        let y = fitted f (F - h) c u (m .u) d (m .is) in
-        let l : length (f (m .u)) ≡ length (f u) = ap (λ (z : A). length (f z)) (y .same-tree) in
-        (m .read, omega (arith, m .wrote, y .short))
+    read-wrote i j d e = let g = given (F - h) c u i j d e x in (g .read, omega (arith, g .wrote, g .short))
 
     pub headed-done : {n : ℕ} (i j d : ℕ) → r ≡ Done i j d → At new free head → {q : ℕ} → q ≡ n → Gives g new free n (fitting g F c v) (Done q (h + j) d)
     headed-done i j d e at q =
-        let m = made i j d e x in
-        let y = fitted f (F - h) c u (m .u) d (m .is) in
-        let l : length (f (m .u)) ≡ length (f u) = ap (λ (z : A). length (f z)) (y .same-tree) in
-        let o : At new (free + length head) (f u) =
-        at-place (free + length head) (omega (arith, k .width)) (subst (λ (z : A). At new (free + h) (f z)) (y .same-tree) (m .out)) in
-        gave v c (fitting-fits g F c v (omega (arith, whole, y .short))) (done-is q (omega (arith, whole, m .wrote)) (y .same-counter))
+        let y = given (F - h) c u i j d e x in
+        let o = at-place (free + length head) (omega (arith, k .width)) (y .out) in
+        gave v c (fitting-fits g F c v (omega (arith, whole, y .short))) (done-is q (omega (arith, whole, y .wrote)) (y .counter))
         (subst (At new free) (sym (k .bytes)) (at-join head (f u) at o))

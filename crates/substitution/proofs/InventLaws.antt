@@ -12,7 +12,7 @@ use Rattle.names.specs.Answers.{written}
 use Rattle.names.specs.Names.{Bytes, ascii, gensym, name-limit, name-width, same}
 use Rattle.names.specs.Segments.{SameOutside, Filled}
 use Rattle.names.proofs.Frames.{same-refl, same-then, same-wider}
-use Rattle.names.proofs.Parts.{part-length}
+use Rattle.names.proofs.Parts.{part, part-length}
 use Rattle.names.proofs.Places.{at-is}
 use Rattle.records.specs.Records.{Loc, SA}
 use Rattle.substitution.specs.Invent.{draw, invent-new-names-sexp}
@@ -53,7 +53,7 @@ below-free {old} {len = len} free k g most fits = same-wider free (length old - 
 
 -- the bytes from start to end
 abbrev pub between : Bytes → ℕ → ℕ → Bytes
-between old start end = take (end - start) (drop start old)
+between old start end = part old start (end - start)
 
 name-is : {old : Bytes} {start end : ℕ} {n : Bytes} → NameFrom old start end n → between old start end ≡ n
 name-is {start = start} {end} h = at-is start (end - start) refl (omega (arith, h .ends)) (h .there)
@@ -65,59 +65,71 @@ new-is b₀ g {k} e l = rw e (take-at g (drop (length g) b₀) k (sym l))
 
 -- a name that is drawn for
 module _ {old : Bytes} {start end len c : ℕ} (room : NameRoom old start end len c) where
-  pub name-length : length (between old start end) ≡ end - start
+  abbrev name : Bytes
+  name = between old start end
+
+  abbrev made : Bytes
+  made = gensym name c
+
+  -- the bytes of the map with its entry, where the made name has g
+  abbrev longer : ℕ → ℕ
+  longer g = name-width + (end - start) + name-width + g + len
+
+  pub name-length : length name ≡ end - start
   name-length = part-length old start (end - start) (omega (arith, room .fits, room .forward))
 
   -- the name as the local array holds it
-  pub old-is : {a a₀ : Bytes} → Filled a₀ a 0 (between old start end) (length (between old start end)) → take (end - start) a ≡ between old start end
-  old-is {a} f = ap (λ (k : ℕ). take k a) (sym name-length) ∙ f .got ∙ take-length (between old start end)
+  pub old-is : {a a₀ : Bytes} → Filled a₀ a 0 name (length name) → take (end - start) a ≡ name
+  old-is {a} f = ap (λ (k : ℕ). take k a) (sym name-length) ∙ f .got ∙ take-length name
 
   -- its entry fits
-  pub entry-fits : end + (name-width + (end - start) + name-width + length (gensym (between old start end) c) + len) ≤ length old
-  entry-fits =
-      let w = between old start end in
-      omega (arith, name-length, entry-length w (gensym w c), entry-bound w c (room .counts), room .fits)
+  pub entry-fits : end + longer (length made) ≤ length old
+  entry-fits = omega (arith, name-length, entry-length name made, entry-bound name c (room .counts), room .fits)
 
   -- a made name that is too long
-  pub pushes-long : name-limit < length (gensym (between old start end) c) → Pushes old old start end len c (record { number = 6; len = len; counter = c; end = end })
+  pub pushes-long : name-limit < length made → Pushes old old start end len c (record { number = 6; len = len; counter = c; end = end })
   pushes-long lt n h m w = record { at-most = omega arith; counted = omega arith; answer = too-long (λ x. draw-long n c x (rw (name-is h) at lt)) refl }
 
-  -- an entry that was written before the map
-  module _ {new : Bytes} {k : ℕ} (ek : k ≡ name-width + (end - start) + name-width + length (gensym (between old start end) c) + len)
-      (f : Filled old new (length old - k) (entry (between old start end) (gensym (between old start end) c)) (length (entry (between old start end) (gensym (between old start end) c)))) where
-    whole : k ≡ length (entry (between old start end) (gensym (between old start end) c)) + len
-    whole = omega (arith, entry-length (between old start end) (gensym (between old start end) c), name-length)
+  -- what the local arrays hold, as an entry
+  module _ {a a₀ b : Bytes} (b₀ : Bytes) {g : ℕ} (fa : Filled a₀ a 0 name (length name)) (eb : b ≡ written made b₀) (eg : g ≡ length made) (le : g ≤ name-limit) where
+    abbrev held : Bytes
+    held = entry (take (end - start) a) (take g b)
 
-    grown-made : Grown old new len (record { number = 0; len = k; counter = c + 1; end = end })
-    grown-made = record { longer = omega arith; within = omega (arith, entry-fits); frame = same-wider (length old - k) (length old - len) (omega arith) (omega (arith, whole, entry-fits)) (f .frame) }
+    grows : longer g ≡ length (entry name made) + len
+    grows = omega (arith, entry-length name made, name-length)
 
-    pushes-made : length (gensym (between old start end) c) ≤ name-limit → Pushes old new start end len c (record { number = 0; len = k; counter = c + 1; end = end })
-    pushes-made le n h m w =
-        let is = name-is h in
-        let f′ : Filled old new (length old - k) (entry n (gensym n c)) (length (entry n (gensym n c))) = rw is at f in
-        let ek′ : k ≡ length (entry n (gensym n c)) + len = rw is at whole in
-        record {
-          at-most = omega (arith, entry-bound n c (room .counts));
-          counted = omega arith;
-          answer = drew (gensym n c) (λ x. draw-made n c x (rw is at le)) refl refl (map-grown n (gensym n c) k w f′ ek′ (omega (arith, entry-fits)));
-        }
+    pub entry-asked : ((length (take (end - start) a) ≤ name-limit) × (length (take g b) ≤ name-limit)) × (length old - longer g + length held ≤ length old)
+    entry-asked = rw (old-is fa, new-is b₀ made eb eg) ((omega (arith, name-length, room .short), omega arith), omega (arith, entry-fits, grows))
 
-  -- what the local arrays hold, written as an entry
-  module _ {a a₀ b : Bytes} (b₀ : Bytes) {g : ℕ} (fa : Filled a₀ a 0 (between old start end) (length (between old start end))) (eb : b ≡ written (gensym (between old start end) c) b₀)
-      (eg : g ≡ length (gensym (between old start end) c)) (le : g ≤ name-limit) where
-    pub entry-asked : ((length (take (end - start) a) ≤ name-limit) × (length (take g b) ≤ name-limit))
-        × (length old - (name-width + (end - start) + name-width + g + len) + length (entry (take (end - start) a) (take g b)) ≤ length old)
-    entry-asked =
-        let w = between old start end in
-        rw (old-is fa, new-is b₀ (gensym w c) eb eg) ((omega (arith, name-length, room .short), omega arith), omega (arith, entry-fits, entry-length w (gensym w c), name-length))
+    -- and written before the map
+    module _ {new : Bytes} (f : Filled old new (length old - longer g) held (length held)) where
+      abbrev answer : Invented
+      answer = record { number = 0; len = longer g; counter = c + 1; end = end }
 
-    pub pushed : {new : Bytes} → Filled old new (length old - (name-width + (end - start) + name-width + g + len)) (entry (take (end - start) a) (take g b)) (length (entry (take (end - start) a) (take g b)))
-        → Grown old new len (record { number = 0; len = name-width + (end - start) + name-width + g + len; counter = c + 1; end = end })
-        × Pushes old new start end len c (record { number = 0; len = name-width + (end - start) + name-width + g + len; counter = c + 1; end = end })
-    pushed f =
-        let f′ = rw (old-is fa, new-is b₀ (gensym (between old start end) c) eb eg) at f in
-        let ek = ap (λ (i : ℕ). name-width + (end - start) + name-width + i + len) eg in
-        (grown-made ek f′, pushes-made ek f′ (omega arith))
+      filled : Filled old new (length old - longer g) (entry name made) (length (entry name made))
+      filled = rw (old-is fa, new-is b₀ made eb eg) at f
+
+      grown-made : Grown old new len answer
+      grown-made = record {
+        longer = omega arith;
+        within = omega (arith, entry-fits);
+        frame = same-wider (length old - longer g) (length old - len) (omega arith) (omega (arith, grows, entry-fits)) (filled .frame);
+      }
+
+      pushes-made : Pushes old new start end len c answer
+      pushes-made n h m w =
+          let is = name-is h in
+          let short : length made ≤ name-limit = omega arith in
+          let wrote : Filled old new (length old - longer g) (entry n (gensym n c)) (length (entry n (gensym n c))) = rw is at filled in
+          let size : longer g ≡ length (entry n (gensym n c)) + len = rw is at grows in
+          record {
+            at-most = omega (arith, entry-bound n c (room .counts));
+            counted = omega arith;
+            answer = drew (gensym n c) (λ x. draw-made n c x (rw is at short)) refl refl (map-grown n (gensym n c) (longer g) w wrote size (omega (arith, entry-fits)));
+          }
+
+      pub pushed : Grown old new len answer × Pushes old new start end len c answer
+      pushed = (grown-made, pushes-made)
 
 -- an SA
 module _ (m : NameMap) (l : Loc) (n : Bytes) (c x : ℕ) where
@@ -150,7 +162,8 @@ module _ {old : Bytes} {start end len c : ℕ} where
   pub invents-kept : same (between old start end) (ascii "@") ≡ true → InventsAtom old old start end len c (record { number = 0; len = len; counter = c; end = end })
   invents-kept t l n h m w = record { at-most = omega arith; counted = omega arith; answer = drew m (λ x. atom-kept m l n c x (rw (name-is h) at t)) refl refl w }
 
-  pub invents-drawn : {new : Bytes} {r : Invented} → same (between old start end) (ascii "@") ≡ false → Pushes old new start end len c r → InventsAtom old new start end len c r
+  pub invents-drawn : {new : Bytes} {r : Invented} → same (between old start end) (ascii "@") ≡ false → Pushes old new start end len c r
+      → InventsAtom old new start end len c r
   invents-drawn {new} {r} t p l n h m w = let d = p n h m w in record { at-most = d .at-most; counted = d .counted; answer = go (d .answer) }
     where
       no : same n (ascii "@") ≡ false

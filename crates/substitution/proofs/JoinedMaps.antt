@@ -4,7 +4,7 @@ use mathlib.Core.Path.{_≡_, refl, sym, ap, _∙_}
 use mathlib.Core.Bool.{Bool, true, false}
 use mathlib.Core.List.{List, [], _∷_, _++_, append-assoc}
 use native.Mathlib.Omega.{arith}
-use Prim.Native.Nat.{ℕ, _+_, _-_, _≤_}
+use Prim.Native.Nat.{ℕ, _+_, _-_}
 use lib.ListN.{length, take, drop, length-append, length-drop}
 use lib.Seq.{length-take-le, take-append-seam}
 use Rattle.names.specs.Maps.{NameMap, map-bytes}
@@ -37,7 +37,8 @@ module _ (k : NameMap) where
       run : Out NameMap → Out NameMap
       run o = elim o as (λ _. Out NameMap) [ done log m′ c′ x′ ↦ after log (invent-new-names-sexp m′ t c′ x′) | refused log n p ↦ refused log n p ]
 
-      go : ((m : NameMap) (c x : ℕ) → invent-new-names-sexp (m ++ k) t c x ≡ on-value onto (invent-new-names-sexp m t c x)) → (o : Out NameMap) → run (on-value onto o) ≡ on-value onto (run o)
+      go : ((m : NameMap) (c x : ℕ) → invent-new-names-sexp (m ++ k) t c x ≡ on-value onto (invent-new-names-sexp m t c x)) → (o : Out NameMap)
+          → run (on-value onto o) ≡ on-value onto (run o)
       go h (done log m′ c′ x′) = ap (after log) (h m′ c′ x′) ∙ after-on-value onto log (invent-new-names-sexp m′ t c′ x′)
       go h (refused log n p) = refl
   invent-onto m (SI l v) c x = refl
@@ -64,7 +65,8 @@ unfolding map-bytes
 joined-bytes [] b = refl
 joined-bytes ((n, n′) ∷ a) b =
     ap (λ (r : Bytes). name-field n ++ (name-field n′ ++ r)) (joined-bytes a b)
-    ∙ sym (append-assoc (name-field n) (name-field n′ ++ map-bytes a) (map-bytes b) ∙ ap (λ (r : Bytes). name-field n ++ r) (append-assoc (name-field n′) (map-bytes a) (map-bytes b)))
+    ∙ sym (append-assoc (name-field n) (name-field n′ ++ map-bytes a) (map-bytes b)
+    ∙ ap (λ (r : Bytes). name-field n ++ r) (append-assoc (name-field n′) (map-bytes a) (map-bytes b)))
 
 pub newer-map : {mem : Bytes} {len : ℕ} (a b : NameMap) → MapAt mem len (a ++ b) → MapAt (take (length mem - length (map-bytes b)) mem) (len - length (map-bytes b)) a
 newer-map {mem} {len} a b w =

@@ -61,13 +61,12 @@ pub map-of-part : {xs : Bytes} {len : ℕ} {m : NameMap} (a : ℕ) → a + len �
 map-of-part {xs} {len} {m} a le at =
     let l = part-length xs a (length xs - a) (omega arith) in
     let w : part xs a (length xs - a) ≡ drop a xs = take-all (length xs - a) (drop a xs) (omega (arith, length-drop a xs)) in
-    let e : a + (length (part xs a (length xs - a)) - len) ≡ length xs - len = omega arith in
-    record {
-      within = omega arith;
-      there = ap (drop (length (part xs a (length xs - a)) - len)) w ∙ drop-drop (length (part xs a (length xs - a)) - len) a xs ∙ ap (λ (n : ℕ). drop n xs) e ∙ at .there;
-    }
+    let top = length (part xs a (length xs - a)) - len in
+    let e : a + top ≡ length xs - len = omega arith in
+    record { within = omega arith; there = ap (drop top) w ∙ drop-drop top a xs ∙ ap (λ (n : ℕ). drop n xs) e ∙ at .there }
 
 pub map-after : {xs ys : Bytes} {lo hi len : ℕ} {m : NameMap} → SameOutside xs ys lo hi → hi + len ≤ length xs → MapAt xs len m → MapAt ys len m
 map-after {xs} {ys} {lo} {hi} {len} s le at =
     let e : length ys - len ≡ length xs - len = omega (arith, s .size) in
-    record { within = omega (arith, s .size, at .within); there = ap (λ (n : ℕ). drop n ys) e ∙ same-wider lo (length xs - len) (omega arith) (omega arith) s .high ∙ at .there }
+    let above = same-wider lo (length xs - len) (omega arith) (omega arith) s .high in
+    record { within = omega (arith, s .size, at .within); there = ap (λ (n : ℕ). drop n ys) e ∙ above ∙ at .there }

@@ -20,8 +20,8 @@ use Rattle.substitution.specs.Plans.{substitution, Goes, Quoted, Lone, P
 use Rattle.substitution.specs.RenameInCons.{rename-atom}
 use Rattle.substitution.specs.declared.Plan.{Plan}
 use Rattle.substitution.specs.declared.Plan.the-variants.{Kept as a-kept, ByMap, Requoted, Alone, Parts}
+use Rattle.substitution.proofs.Fits.{done-is}
 use Rattle.substitution.proofs.Pairs.{on-part}
-use Rattle.substitution.proofs.Substitutes.{done-eq}
 
 -- what a plan says of a record
 module _ (inside qq : Bool) (s : Bytes) (t : Sexp) where
@@ -101,5 +101,5 @@ module _ (inside qq : Bool) {mem : Bytes} {free len : ℕ} (f c : ℕ) where
         record {
           frame = alone-frame map;
           says = λ t a b w. let j = plan-says inside qq x t w a in let i = j .1 in let z = made hr hw d g (element map t (omega arith) i) in
-              gave (z .u) d (ap (fitting sexp-bytes f c) (i .rule m) ∙ z .is) (done-eq (j .0) (z .wrote)) (z .out);
+              gave (z .u) d (ap (fitting sexp-bytes f c) (i .rule m) ∙ z .is) (done-is (j .0) (z .wrote) refl) (z .out);
         }

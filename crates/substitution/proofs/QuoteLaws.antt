@@ -20,10 +20,10 @@ use Rattle.views.specs.Views.{mark-width}
 use Rattle.substitution.specs.Arena.{head-width, fitting, Measures, SexpAtStart}
 use Rattle.substitution.specs.Plans.{Plans, Remakes, substitution}
 use Rattle.substitution.specs.declared.Plan.the-variants.{Requoted}
+use Rattle.substitution.proofs.Fits.{done-is, fitting-fits, fitting-long}
 use Rattle.substitution.proofs.HeadLaws.{element}
 use Rattle.substitution.proofs.Pairs.{cons-width, cons-length}
 use Rattle.substitution.proofs.PlanLaws.{plan-says}
-use Rattle.substitution.proofs.Substitutes.{done-eq, fitting-fits, fitting-long}
 use Rattle.substitution.proofs.Views.{valid-loc-of}
 
 -- a record is its mark, its L and the rest
@@ -218,6 +218,6 @@ module _ (inside qq : Bool) {mem : Bytes} {at end : ℕ} (x : Plans inside qq me
                 let u = remade (k .l) (k .h) (k .v) in
                 let s = measured k in
                 let is = ap (fitting sexp-bytes f c) (k .rule m) ∙ fitting-fits sexp-bytes f c u (omega (arith, k .wide)) in
-                gave u c is (done-eq (k .ends) (omega (arith, k .wide)))
+                gave u c is (done-is (k .ends) (omega (arith, k .wide)) refl)
                 (requoted at low (omega arith) f₁ f₂ f₃ f₄ (k .l) (k .h) (k .l₂) (k .v) (k .z) (k .valid) (k .starts) (k .place) (omega arith));
           }

@@ -18,7 +18,9 @@ pub step-fits : {A : Type 0} (bytes : A → Bytes) (F c x : ℕ) (a : A) → out
 unfolding outcome step ret fits fitting after
 step-fits {A} bytes F c x a = go (leb (length (bytes a)) F)
   where
-    go : (b : Bool) → outcome {A = A} (after [] (elim b as (λ _. Out A) [ true ↦ done [] a c x | false ↦ refused [] 7 0 ])) ≡ elim b as (λ _. Outcome A) [ true ↦ gives a c | false ↦ refuses 7 0 ]
+    go : (b : Bool)
+        → outcome {A = A} (after [] (elim b as (λ _. Out A) [ true ↦ done [] a c x | false ↦ refused [] 7 0 ]))
+        ≡ elim b as (λ _. Outcome A) [ true ↦ gives a c | false ↦ refuses 7 0 ]
     go true = refl
     go false = refl
 

@@ -1,35 +1,64 @@
--- What the view of an S record says of its length, and of an SA. Assumes nothing.
+-- What the view of an S record says of it, by its tag or its mark: of a record that is no SC, of an SC, of an SA; its length, and its L. Assumes nothing.
 use mathlib.Core.Path.{_≡_, refl, sym, ap, subst, _∙_}
+use mathlib.Core.Bool.{Bool}
 use mathlib.Core.List.{_++_, flatten, append-assoc, append-nil}
+use mathlib.Core.Option.{none}
 use native.Mathlib.Omega.{arith}
 use Prim.Native.Nat.{ℕ, _+_, _-_, _≤_}
 use lib.ListN.{length, take, length-append}
-use Rattle.names.specs.Names.{Bytes, ascii, name-field, name-width}
+use Rattle.names.specs.Maps.{NameMap}
+use Rattle.names.specs.Names.{Bytes, ascii, name-field}
 use Rattle.names.specs.Segments.{At}
 use Rattle.names.proofs.Parts.{into, part, part-length}
 use Rattle.names.proofs.Places.{at-place, at-is, at-left}
 use Rattle.records.specs.Records.{Loc, Sexp, SN, SC, SI, SQ, SA, sexp-bytes, record-bytes}
-use Rattle.records.specs.Sexps.{loc-of}
+use Rattle.records.specs.Sexps.{loc-of, only}
 use Rattle.records.specs.Valid.{ValidLoc, ValidName, SexpFields}
 use Rattle.views.specs.Views.{SexpAt, SeesSexp}
 use Rattle.views.specs.declared.SexpView.{SexpView}
 use Rattle.views.proofs.Views.{first-of, rest-of}
 use Rattle.views.proofs.CountLaws.{SexpOf, sexp-by-mark}
-use Rattle.substitution.proofs.MapLaws.{name-field-length}
 use Rattle.substitution.specs.Arena.{head-width, Measures, AtomAtStart, named}
+use Rattle.substitution.specs.Inventing.{atom-size}
+use Rattle.substitution.specs.RenameInCons.{rename-in-cons, rename-in-qq, rename-atom}
+use Rattle.substitution.proofs.MapLaws.{name-field-length}
 
--- the length of a record, by the tag of its view
+-- a record that is no SC: both rules leave it, but for an atom outside `qq`
+pub record Leaf (v : SexpView) (t : Sexp) : Type 0 where
+  pub whole : v .end ≡ length (sexp-bytes t)
+  pub no-list : only t ≡ none
+  pub in-qq : (qq : Bool) (m : NameMap) → rename-in-qq qq m t ≡ t
+  pub in-cons : (qq : Bool) (m : NameMap) → rename-in-cons qq m t ≡ rename-atom m t
+
+-- by the tag of its view
 module _ {s : Bytes} {v : SexpView} (x : SeesSexp s v) where
-  pub measures-leaf : (v .tag ≡ 1 → ⊥) → Measures s (v .end)
-  unfolding SexpAt
-  measures-leaf q = record { within = x .within; measures = λ t w k. go t (x .sees t w k) }
+  pub leaf : (v .tag ≡ 1 → ⊥) → (t : Sexp) → SexpFields t → At s 0 (sexp-bytes t) → Leaf v t
+  unfolding SexpAt only rename-in-qq rename-in-cons rename-atom
+  leaf q t w a = go t (x .sees t w a)
     where
-      go : (t : Sexp) → SexpAt s v t → v .end ≡ length (sexp-bytes t)
-      go (SN y) k = k .1
-      go (SC y h u) k = absurd (q (k .0))
-      go (SI y b) k = k .whole
-      go (SQ y b m) k = k .whole
-      go (SA y m) k = k .whole
+      go : (t : Sexp) → SexpAt s v t → Leaf v t
+      go (SN l) k = record { whole = k .1; no-list = refl; in-qq = λ qq m. refl; in-cons = λ qq m. refl }
+      go (SC l h u) k = absurd (q (k .0))
+      go (SI l b) k = record { whole = k .whole; no-list = refl; in-qq = λ qq m. refl; in-cons = λ qq m. refl }
+      go (SQ l b n) k = record { whole = k .whole; no-list = refl; in-qq = λ qq m. refl; in-cons = λ qq m. refl }
+      go (SA l n) k = record { whole = k .whole; no-list = refl; in-qq = λ qq m. refl; in-cons = λ qq m. refl }
+
+  -- what holds of every SC at the start holds of every record there
+  pub each-pair : (P : Sexp → Type 0) → v .tag ≡ 1 → ((l : Loc) (h u : Sexp) → SexpFields (SC l h u) → At s 0 (sexp-bytes (SC l h u)) → P (SC l h u))
+      → (t : Sexp) → SexpFields t → At s 0 (sexp-bytes t) → P t
+  unfolding SexpAt
+  each-pair P q f t w a = go t w a (x .sees t w a)
+    where
+      go : (t : Sexp) → SexpFields t → At s 0 (sexp-bytes t) → SexpAt s v t → P t
+      go (SN l) w a k = absurd (omega arith)
+      go (SC l h u) w a k = f l h u w a
+      go (SI l b) w a k = absurd (omega (arith, k .tag))
+      go (SQ l b n) w a k = absurd (omega (arith, k .tag))
+      go (SA l n) w a k = absurd (omega (arith, k .tag))
+
+  -- its length
+  pub measures-leaf : (v .tag ≡ 1 → ⊥) → Measures s (v .end)
+  measures-leaf q = record { within = x .within; measures = λ t w a. leaf q t w a .whole }
 
   pub measures-pair : {h k : ℕ} → v .tag ≡ 1 → v .start ≤ length s → Measures (part s (v .start) (length s - v .start)) h
       → Measures (part s (v .start + h) (length s - (v .start + h))) k → Measures s (v .start + h + k)
@@ -37,17 +66,14 @@ module _ {s : Bytes} {v : SexpView} (x : SeesSexp s v) where
   measures-pair {h} {k} q fit a b =
       let la = part-length s (v .start) (length s - v .start) (omega arith) in
       let lb = part-length s (v .start + h) (length s - (v .start + h)) (omega (arith, a .within)) in
-      record { within = omega (arith, a .within, b .within); measures = λ t w at. go t w (x .sees t w at) }
+      record { within = omega (arith, a .within, b .within); measures = each-pair (λ t. v .start + h + k ≡ length (sexp-bytes t)) q sum }
     where
-      go : (t : Sexp) → SexpFields t → SexpAt s v t → v .start + h + k ≡ length (sexp-bytes t)
-      go (SN y) w p = absurd (omega arith)
-      go (SC y hd tl) w p =
+      sum : (l : Loc) (hd tl : Sexp) → SexpFields (SC l hd tl) → At s 0 (sexp-bytes (SC l hd tl)) → v .start + h + k ≡ length (sexp-bytes (SC l hd tl))
+      sum l hd tl w at =
+          let p = x .sees (SC l hd tl) w at in
           let i = a .measures hd (w .1) (into (first-of (p .1))) in
           let j = b .measures tl (w .2) (into (at-place (v .start + h) (omega (arith, i)) (first-of (rest-of (p .1))))) in
           omega (arith, i, j, p .2)
-      go (SI y b) w p = absurd (omega (arith, p .tag))
-      go (SQ y b m) w p = absurd (omega (arith, p .tag))
-      go (SA y m) w p = absurd (omega (arith, p .tag))
 
 -- an SA of this name
 pub record Atom (s : Bytes) (v : SexpView) (t : Sexp) : Type 0 where
@@ -59,10 +85,10 @@ pub record Atom (s : Bytes) (v : SexpView) (t : Sexp) : Type 0 where
   pub ends : v .end ≡ v .start + length n
   pub whole : v .end ≡ length (sexp-bytes t)
   pub other : (z : Bytes) → sexp-bytes (SA l z) ≡ named s z
-  pub size : (z : Bytes) → length (sexp-bytes (SA l z)) ≡ head-width + name-width + length z
-  pub head : head-width ≤ length (sexp-bytes t)
+  pub size : (z : Bytes) → length (sexp-bytes (SA l z)) ≡ atom-size (length z)
+  pub own-size : length (sexp-bytes t) ≡ atom-size (length n)
 
--- its bytes, up to its name
+-- its bytes and their length
 atom-bytes : (l : Loc) (z : Bytes) → sexp-bytes (SA l z) ≡ (ascii "SA" ++ l) ++ name-field z
 unfolding sexp-bytes record-bytes flatten
 atom-bytes l z = simp (append-assoc, append-nil)
@@ -71,6 +97,9 @@ head-length : (l : Loc) → ValidLoc l → length (ascii "SA" ++ l) ≡ head-wid
 unfolding ascii
 head-length l w = omega arith
 
+atom-length : (l : Loc) → ValidLoc l → (z : Bytes) → length (sexp-bytes (SA l z)) ≡ atom-size (length z)
+atom-length l w z = omega (arith, ap length (atom-bytes l z), length-append (ascii "SA" ++ l) (name-field z), head-length l w, name-field-length z)
+
 pub atom : {s : Bytes} {v : SexpView} → AtomAtStart s → SeesSexp s v → (t : Sexp) → SexpFields t → At s 0 (sexp-bytes t) → Atom s v t
 unfolding SexpOf SexpAt SexpFields
 atom {s} {v} q x t w a = sexp-by-mark {k = 4} (λ u. SexpFields u → At s 0 (sexp-bytes u) → Atom s v u) q go t a w a
@@ -78,11 +107,8 @@ atom {s} {v} q x t w a = sexp-by-mark {k = 4} (λ u. SexpFields u → At s 0 (se
     go : (l : Loc) (n : Bytes) → SexpFields (SA l n) → At s 0 (sexp-bytes (SA l n)) → Atom s v (SA l n)
     go l n w a =
         let k = x .sees (SA l n) w a in
-        let hl = head-length l (w .0) in
-        let b = atom-bytes l n in
-        let h : At s 0 (ascii "SA" ++ l) = at-left (ascii "SA" ++ l) (name-field n) (subst (At s 0) b a) in
-        let e : take head-width s ≡ ascii "SA" ++ l = at-is 0 head-width refl (sym hl) h in
-        let size : (z : Bytes) → length (sexp-bytes (SA l z)) ≡ head-width + name-width + length z = λ z. omega (arith, ap length (atom-bytes l z), length-append (ascii "SA" ++ l) (name-field z), hl, name-field-length z) in
+        let h = at-left (ascii "SA" ++ l) (name-field n) (subst (At s 0) (atom-bytes l n) a) in
+        let e : take head-width s ≡ ascii "SA" ++ l = at-is 0 head-width refl (sym (head-length l (w .0))) h in
         record {
           l = l;
           n = n;
@@ -92,8 +118,8 @@ atom {s} {v} q x t w a = sexp-by-mark {k = 4} (λ u. SexpFields u → At s 0 (se
           ends = k .ends;
           whole = k .whole;
           other = λ z. atom-bytes l z ∙ ap (λ (y : Bytes). y ++ name-field z) (sym e);
-          size = size;
-          head = omega (arith, size n);
+          size = atom-length l (w .0);
+          own-size = atom-length l (w .0) n;
         }
 
 -- the L of a record is one

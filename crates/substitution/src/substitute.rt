@@ -15,12 +15,11 @@ use records::Step;
 use records::sexp::sexp_mark;
 use views::MARK_WIDTH;
 use views::sexps::sexp_view;
-ghost use mathlib.Core.Path.{_≡_};
-ghost use mathlib.Core.List.{_++_};
+ghost use mathlib.Core.Bool.{true};
 ghost use Prim.Native.Nat.{_+_, _≤_};
-ghost use lib.ListN.{length, take};
+ghost use lib.ListN.{length};
 ghost use Rattle.names.specs.Maps.{NameMap};
-ghost use Rattle.names.specs.Names.{name-field, name-limit};
+ghost use Rattle.names.specs.Names.{name-limit};
 ghost use Rattle.names.specs.Segments.{Filled};
 ghost use Rattle.records.specs.Records.{Sexp};
 ghost use Rattle.substitution.specs.Arena.{MapAt, SexpAtStart, Substitutes, AtomAtStart, head-width, named};
@@ -207,19 +206,12 @@ pub fn rename_in_cons(
     rename(mem, free, map_len, qq, false, f, counter)
 }
 
-// Inside `qq` (`rename_in_qq`).
-pub fn rename_in_qq(
-    mem: &mut [u8],
-    free: usize,
-    map_len: usize,
-    qq: bool,
-    f: usize,
-    counter: u64,
-) -> Step
+// Inside `qq` (`rename_in_qq`); what an `unquote` holds is looked into by `rename_in_cons` with qq.
+pub fn rename_in_qq(mem: &mut [u8], free: usize, map_len: usize, f: usize, counter: u64) -> Step
     requires { ⌜ ((t : Sexp) × SexpAtStart (now mem) free t) ⌝ }
     requires { ⌜ ((m : NameMap) × MapAt (now mem) «map_len» m) ⌝ }
     requires { ⌜ free + f + «map_len» ≤ length (now mem) ⌝ }
-    ensures { λ r. ⌜ Substitutes (rename-in-qq qq) (now (mem .entry)) (now (mem .exit)) free «map_len» f counter r ⌝ }
+    ensures { λ r. ⌜ Substitutes (rename-in-qq true) (now (mem .entry)) (now (mem .exit)) free «map_len» f counter r ⌝ }
 {
-    rename(mem, free, map_len, qq, true, f, counter)
+    rename(mem, free, map_len, true, true, f, counter)
 }

@@ -1,5 +1,4 @@
 -- `substitution::invent::invent_new_names_sexp` meets its contract. What falls is the length of the bytes that are lent. Assumes nothing.
-use mathlib.Core.Path.{_≡_}
 use Prim.Native.Nat.{ℕ, _+_, _-_, _<_}
 use borrow.Author.Needs.{needs}
 use borrow.Fn.Kinds.{In}
@@ -9,10 +8,13 @@ use lib.ListN.{length}
 use Rattle.names.specs.Names.{Bytes}
 use Rattle.names.proofs.Parts.{back, part-length}
 use Rattle.records.specs.Records.{Sexp}
+use Rattle.views.specs.declared.SexpView.{SexpView}
 use Rattle.substitution.specs.Inventing.{Roomy}
 use Rattle.substitution.proofs.InventLaws.{grown-none, grown-then}
 use Rattle.substitution.proofs.MapLaws.{map-of-part}
-use Rattle.substitution.proofs.InventSexps.{Pair, as-atom, as-other, as-pair, atom-room, head-room, invents-atom, invents-other, invents-pair, invents-refused, next, roomy-part, Drawn, drawn, Next, shifted}
+use Rattle.substitution.proofs.InventSexps.{Pair, as-pair, as-atom, as-other, atom-room, head-room, Next, next, roomy-part, Drawn, drawn, shifted}
+use Rattle.substitution.proofs.InventSexps.{invents-atom, invents-other, invents-refused, invents-pair}
+use Rattle.substitution.proofs.Views.{Atom}
 use Rattle.substitution.proofs.invent.invent_new_names_sexp.Reads as reads
 use Rattle.substitution.proofs.invent.invent_new_names_sexp.Kinds as kinds
 use Rattle.substitution.proofs.invent.+invent_new_names_sexp.Lts-invent_new_names_sexp as lts
@@ -34,151 +36,193 @@ below t = and 1 kinds.ps (falls 1 kinds.ps _<_ μ t) reads.Pre
 abbrev calls : ℕ → lts.Claims
 calls t = (sexp-view-reads.Asked, sexp-view-reads.Learnt, sexp-mark-reads.Asked, sexp-mark-reads.Learnt, below t, reads.Post, atom-reads.Asked, atom-reads.Learnt)
 
--- after the head: the SC, and what was drawn from its head
-abbrev Headed : ℕ → Type 0
-Headed t = lts.After-invent-new-names-sexp (calls t) (at t) reads.Post
+module _ (t : ℕ) where
+  -- the places that are spoken of
+  abbrev Marked : Type 0
+  Marked = lts.After-sexp-mark (calls t) (at t) reads.Post
 
-abbrev given : (t : ℕ) → Headed t → lts.Start (calls t) (at t) reads.Post
-given t c = c .before .before .before .before .before .before .before .before
+  abbrev AtPair : Type 0
+  AtPair = lts.At-match-keys1 (calls t) (at t) reads.Post
 
-abbrev mem : (t : ℕ) → Headed t → Bytes
-mem t c = given t c .args .mem .now
+  abbrev AtAtom : Type 0
+  AtAtom = lts.At-match-keys2 (calls t) (at t) reads.Post
 
-abbrev start : (t : ℕ) → Headed t → ℕ
-start t c = c .before .before .before .before .before .sexp-view .result .start
+  abbrev Headed : Type 0
+  Headed = lts.After-invent-new-names-sexp (calls t) (at t) reads.Post
 
--- memory then, and where the tail stands
-abbrev mid : (t : ℕ) → Headed t → Bytes
-mid t c = back (mem t c) (start t c) (length (mem t c) - start t c) (c .invent-new-names-sexp .last .0)
+  abbrev Going : Type 0
+  Going = lts.Else1 (calls t) (at t) reads.Post
 
-abbrev place : (t : ℕ) → Headed t → ℕ
-place t c = start t c + c .invent-new-names-sexp .result .end
+  abbrev Tailed : Type 0
+  Tailed = lts.After-invent-new-names-sexp2 (calls t) (at t) reads.Post
 
-pair : (t : ℕ) (c : Headed t) (u : Sexp) → Roomy u (mem t c) 0 (given t c .args .len) (given t c .args .counter) → Pair (mem t c) (start t c) u
-pair t c = as-pair (c .before .before .before .before .before .sexp-view .ensures) (c .before .before .before .sexp-mark .ensures) (c .before .before .match .keys1)
+  -- from a place back to an earlier one
+  abbrev viewed : Marked → lts.After-sexp-view (calls t) (at t) reads.Post
+  viewed c = c .before .before
 
-this : (t : ℕ) (c : Headed t) → Pair (mem t c) (start t c) (given t c .pre .1 .0 .0)
-this t c = pair t c (given t c .pre .1 .0 .0) (given t c .pre .1 .0 .1)
+  abbrev start : Marked → lts.Start (calls t) (at t) reads.Post
+  start c = viewed c .before .before .before
 
-head : (t : ℕ) (c : Headed t) → Drawn (mem t c) (c .invent-new-names-sexp .last .0) (start t c) (given t c .args .len) (given t c .args .counter) (c .invent-new-names-sexp .result)
-head t c = drawn (c .invent-new-names-sexp .ensures .0) (c .invent-new-names-sexp .ensures .1) (head-room (given t c .pre .1 .0 .1) (this t c)) (given t c .pre .1 .1 .1)
+  abbrev pair : Headed → AtPair
+  pair c = c .before .before
 
--- the tail has its room
-tail : (t : ℕ) (c : Headed t) → c .invent-new-names-sexp .result .number ≡ 0
-    → Next (this t c) (mid t c) (given t c .args .len) (given t c .args .counter) (given t c .pre .1 .1 .0) (shifted (start t c) (c .invent-new-names-sexp .result))
-tail t c z = next (head t c .grown _ (head t c .within)) (head t c .invents) z (given t c .pre .1 .0 .1) (this t c) (given t c .pre .1 .1 .0) (given t c .pre .1 .1 .1)
+  abbrev marked : Headed → Marked
+  marked c = pair c .before
 
-abbrev Tailed : ℕ → Type 0
-Tailed t = lts.After-invent-new-names-sexp2 (calls t) (at t) reads.Post
+  abbrev headed : Going → Headed
+  headed c = c .before .before .before .before
 
-rest : (t : ℕ) (c : Tailed t) → Drawn (mid t (c .before .before .before .before .before .before .before)) (c .invent-new-names-sexp2 .last .0) (place t (c .before .before .before .before .before .before .before)) (c .before .before .before .before .before .before .before .invent-new-names-sexp .result .len) (c .before .before .before .before .before .before .before .invent-new-names-sexp .result .counter)
-    (c .invent-new-names-sexp2 .result)
-rest t c = let n = tail t (c .before .before .before .before .before .before .before) (omega (arith, c .before .before .before .if1)) in drawn (c .invent-new-names-sexp2 .ensures .0) (c .invent-new-names-sexp2 .ensures .1) (n .room) (n .map-at)
+  abbrev going : Tailed → Going
+  going c = c .before .before .before
 
-view-requires : (t : ℕ) → lts.Need-sexp-view-requires (calls t) (at t) reads.Post
-view-requires t c κs = search needs
+  -- what is given
+  abbrev mem : Marked → Bytes
+  mem c = start c .args .mem .now
 
-mark-requires : (t : ℕ) → lts.Need-sexp-mark-requires (calls t) (at t) reads.Post
-mark-requires t c κs = search needs
+  abbrev view : Marked → SexpView
+  view c = viewed c .sexp-view .result
 
-head-sub : (t : ℕ) → lts.Need-sub-invent-new-names-sexp (calls t) (at t) reads.Post
-head-sub t c = search needs
+  abbrev Room : Sexp → Marked → Type 0
+  Room u c = Roomy u (mem c) 0 (start c .args .len) (start c .args .counter)
 
-head-start : (t : ℕ) → lts.Need-part-invent-new-names-sexp-start (calls t) (at t) reads.Post
-head-start t c = search needs
+  abbrev given : Marked → Sexp
+  given c = start c .pre .1 .0 .0
 
-head-end : (t : ℕ) → lts.Need-part-invent-new-names-sexp-end (calls t) (at t) reads.Post
-head-end t c = search needs
+  room : (c : Marked) → Room (given c) c
+  room c = start c .pre .1 .0 .1
 
-head-requires : (t : ℕ) → lts.Need-invent-new-names-sexp-requires (calls t) (at t) reads.Post
-head-requires t c κs =
-    let s = c .before .before .before .before .before .before .before in
-    let r = s .pre .1 .0 .1 in
-    let p = as-pair (c .before .before .before .before .sexp-view .ensures) (c .before .before .sexp-mark .ensures) (c .before .match .keys1) (s .pre .1 .0 .0) r in
-    let l = part-length (s .args .mem .now) (c .before .before .before .before .sexp-view .result .start) (length (s .args .mem .now) - c .before .before .before .before .sexp-view .result .start) (omega (arith, p .whole, r .fits)) in
-    (omega (arith, p .moved, p .whole, r .fits), ((p .head, roomy-part (head-room r p)), (s .pre .1 .1 .0, map-of-part (c .before .before .before .before .sexp-view .result .start) (omega (arith, p .whole, r .fits)) (s .pre .1 .1 .1))))
+  -- the record by its mark
+  atoms : (c : AtAtom) (u : Sexp) → Room u (c .before) → Atom (mem (c .before)) (view (c .before)) u
+  atoms c = let d = c .before in as-atom (viewed d .sexp-view .ensures) (d .sexp-mark .ensures) (c .match .keys2)
 
-same-1 : (t : ℕ) → lts.Need-same-length (calls t) (at t) reads.Post
-same-1 t c = search needs
+  pairs : (c : AtPair) (u : Sexp) → Room u (c .before) → Pair (mem (c .before)) (view (c .before) .start) u
+  pairs c = let d = c .before in as-pair (viewed d .sexp-view .ensures) (d .sexp-mark .ensures) (c .match .keys1)
 
-returns : (t : ℕ) → lts.Need-returns (calls t) (at t) reads.Post
-returns t c =
-    let d = head t (c .before .before .before .before) in
-    (d .grown _ (omega (arith, d .within)), invents-refused (d .grown _ (d .within)) (d .invents) (pair t (c .before .before .before .before)) _ (λ z. omega arith))
+  this : (c : AtPair) → Pair (mem (c .before)) (view (c .before) .start) (given (c .before))
+  this c = let d = c .before in pairs c (given d) (room d)
 
-add-next : (t : ℕ) → lts.Need-add-next (calls t) (at t) reads.Post
-add-next t c = let n = tail t (c .before .before .before .before .before) (omega (arith, c .before .if1)) in omega (arith, n .ends, n .room .fits, head t (c .before .before .before .before .before) .within, c .before .before .before .before .before .before .before .before .before .before .before .before .before .good)
+  -- what was drawn from the head
+  head : (c : Headed)
+      → let d = marked c in
+      Drawn (mem d) (c .invent-new-names-sexp .last .0) (view d .start) (start d .args .len) (start d .args .counter) (c .invent-new-names-sexp .result)
+  head c =
+      let d = marked c in
+      let h = c .invent-new-names-sexp .ensures in
+      drawn (h .0) (h .1) (head-room (room d) (this (pair c))) (start d .pre .1 .1 .1)
 
-tail-sub : (t : ℕ) → lts.Need-sub-invent-new-names-sexp-2 (calls t) (at t) reads.Post
-tail-sub t c = let n = tail t (c .before .before .before .before .before) (omega (arith, c .before .if1)) in omega (arith, n .ends, n .room .fits, head t (c .before .before .before .before .before) .within)
+  -- memory then, and where the tail stands
+  abbrev mid : Headed → Bytes
+  mid c = let d = marked c in back (mem d) (view d .start) (length (mem d) - view d .start) (c .invent-new-names-sexp .last .0)
 
-tail-start : (t : ℕ) → lts.Need-part-invent-new-names-sexp-start-2 (calls t) (at t) reads.Post
-tail-start t c = let n = tail t (c .before .before .before .before .before) (omega (arith, c .before .if1)) in omega (arith, n .ends, n .room .fits, head t (c .before .before .before .before .before) .within)
+  abbrev place : Headed → ℕ
+  place c = view (marked c) .start + c .invent-new-names-sexp .result .end
 
-tail-end : (t : ℕ) → lts.Need-part-invent-new-names-sexp-end-2 (calls t) (at t) reads.Post
-tail-end t c = search needs
+  -- the tail has its room
+  tail : (c : Going)
+      → let h = headed c in
+      let d = marked h in
+      let a = start d .args in
+      Next (this (pair h)) (mid h) (a .len) (a .counter) (start d .pre .1 .1 .0) (shifted (view d .start) (h .invent-new-names-sexp .result))
+  tail c =
+      let h = headed c in
+      let d = marked h in
+      let m = start d .pre .1 .1 in
+      next (head h .grown _ (head h .within)) (head h .invents) (c .if1 .left) (room d) (this (pair h)) (m .0) (m .1)
 
-tail-requires : (t : ℕ) → lts.Need-invent-new-names-sexp-requires-2 (calls t) (at t) reads.Post
-tail-requires t c κs =
-    let h = c .before .before .before .before .before .before in
-    let n = tail t h (omega (arith, c .before .before .if1)) in
-    let size = head t h .grown 0 (omega arith) .frame .size in
-    let l = part-length (mid t h) (place t h) (length (mid t h) - place t h) (omega (arith, n .room .fits)) in
-    (omega (arith, this t h .moved, n .room .fits), ((this t h .tail, roomy-part (n .room)), (n .map, map-of-part (place t h) (omega (arith, n .room .fits)) (n .map-at))))
+  -- what was drawn from it
+  rest : (c : Tailed)
+      → let h = headed (going c) in
+      let r = h .invent-new-names-sexp .result in
+      Drawn (mid h) (c .invent-new-names-sexp2 .last .0) (place h) (r .len) (r .counter) (c .invent-new-names-sexp2 .result)
+  rest c =
+      let n = tail (going c) in
+      let h = c .invent-new-names-sexp2 .ensures in
+      drawn (h .0) (h .1) (n .room) (n .map-at)
 
-add-end : (t : ℕ) → lts.Need-add-t17 (calls t) (at t) reads.Post
-add-end t c = omega (arith, rest t (c .before .before .before) .within, head t (c .before .before .before .before .before .before .before .before .before .before) .grown 0 (omega arith) .frame .size, c .before .before .before .before .before .before .before .before .before .before .before .before .before .before .before .before .before .before .good)
+  head-requires : lts.Need-invent-new-names-sexp-requires (calls t) (at t) reads.Post
+  head-requires c κs =
+      let d = c .before .before in
+      let r = room d in
+      let p = this (c .before) in
+      let at = view d .start in
+      let m = start d .pre .1 .1 in
+      let l = part-length (mem d) at (length (mem d) - at) (omega (arith, p .whole, r .fits)) in
+      let map = map-of-part at (omega (arith, p .whole, r .fits)) (m .1) in
+      (omega (arith, p .moved, p .whole, r .fits), ((p .head, roomy-part (head-room r p)), (m .0, map)))
 
-atom-requires : (t : ℕ) → lts.Need-atom-requires (calls t) (at t) reads.Post
-atom-requires t c κs =
-    let r = c .before .before .before .before .before .before .before .pre .1 .0 .1 in
-    atom-room r (as-atom (c .before .before .before .before .sexp-view .ensures) (c .before .before .sexp-mark .ensures) (c .before .match .keys2) (c .before .before .before .before .before .before .before .pre .1 .0 .0) r)
+  returns : lts.Need-returns (calls t) (at t) reads.Post
+  returns c =
+      let h = c .before .before .before .before in
+      let d = head h in
+      (d .grown _ (omega (arith, d .within)), invents-refused (d .grown _ (d .within)) (d .invents) (pairs (pair h)) _ (c .if1 .taken))
 
-same-2 : (t : ℕ) → lts.Need-same-length-2 (calls t) (at t) reads.Post
-same-2 t c = search needs
+  add-next : lts.Need-add-next (calls t) (at t) reads.Post
+  add-next c = let h = headed (c .before) in omega (arith, head h .within, start (marked h) .good)
 
-returns-2 : (t : ℕ) → lts.Need-returns-2 (calls t) (at t) reads.Post
-returns-2 t c =
-    let d = head t (c .before .before .before .before .before .before .before .before .before .before) in
-    let u = rest t (c .before .before .before) in
-    (grown-then (d .grown _ (d .within)) (u .grown _ (u .within)), invents-pair (d .grown _ (d .within)) (d .invents) (pair t (c .before .before .before .before .before .before .before .before .before .before)) (omega (arith, c .before .before .before .before .before .before .if1)) (u .invents))
+  tail-requires : lts.Need-invent-new-names-sexp-requires-2 (calls t) (at t) reads.Post
+  tail-requires c κs =
+      let e = c .before .before in
+      let h = headed e in
+      let n = tail e in
+      let p = this (pair h) in
+      let at = place h in
+      let size = head h .grown 0 (omega arith) .frame .size in
+      let l = part-length (mid h) at (length (mid h) - at) (omega (arith, n .room .fits)) in
+      let own = start (marked h) .pre .0 in
+      let map = map-of-part at (omega (arith, n .room .fits)) (n .map-at) in
+      (omega (arith, p .moved, n .room .fits, own), ((p .tail, roomy-part (n .room)), (n .map, map)))
 
-same-3 : (t : ℕ) → lts.Need-same-length-3 (calls t) (at t) reads.Post
-same-3 t c = search needs
+  add-end : lts.Need-add-t17 (calls t) (at t) reads.Post
+  add-end c =
+      let e = c .before .before .before in
+      let h = headed (going e) in
+      omega (arith, rest e .within, head h .grown 0 (omega arith) .frame .size, start (marked h) .good)
 
-returns-3 : (t : ℕ) → lts.Need-returns-3 (calls t) (at t) reads.Post
-returns-3 t c = (c .before .before .atom .ensures .0, invents-atom (as-atom (c .before .before .before .before .before .before .before .sexp-view .ensures) (c .before .before .before .before .before .sexp-mark .ensures) (c .before .before .before .before .match .keys2)) (c .before .before .atom .ensures .1))
+  atom-requires : lts.Need-atom-requires (calls t) (at t) reads.Post
+  atom-requires c κs = let d = c .before .before in atom-room (room d) (atoms (c .before) (given d) (room d))
 
-same-4 : (t : ℕ) → lts.Need-same-length-4 (calls t) (at t) reads.Post
-same-4 t c = search needs
+  returns-2 : lts.Need-returns-2 (calls t) (at t) reads.Post
+  returns-2 c =
+      let e = c .before .before .before in
+      let h = headed (going e) in
+      let d = head h in
+      let u = rest e in
+      let g = d .grown _ (d .within) in
+      (grown-then g (u .grown _ (u .within)), invents-pair g (d .invents) (pairs (pair h)) (going e .if1 .left) (u .invents))
 
-returns-4 : (t : ℕ) → lts.Need-returns-4 (calls t) (at t) reads.Post
-returns-4 t c =
-    (grown-none (c .before .before .before .before .before .before .args .len) (c .before .before .before .before .before .before .args .mem .now) (c .before .before .before .sexp-view .ensures .within), invents-other (as-other (c .before .before .before .sexp-view .ensures) (c .before .sexp-mark .ensures) (c .match .rest .0 .1) (c .match .rest .1)))
+  returns-3 : lts.Need-returns-3 (calls t) (at t) reads.Post
+  returns-3 c = let a = c .before .before in (a .atom .ensures .0, invents-atom (atoms (a .before .before)) (a .atom .ensures .1))
+
+  returns-4 : lts.Need-returns-4 (calls t) (at t) reads.Post
+  returns-4 c =
+      let d = c .before in
+      let see = viewed d .sexp-view .ensures in
+      let other = as-other see (d .sexp-mark .ensures) (c .match .rest .0 .1) (c .match .rest .1) in
+      (grown-none (start d .args .len) (mem d) (see .within), invents-other other)
 
 pub +invent-new-names-sexp-spec : {M : Type 1} → statement M
 +invent-new-names-sexp-spec =
     close μ
     λ t.
     lts.spec (calls t) (at t) reads.Post
-    (view-requires t)
-    (mark-requires t)
-    (head-sub t)
-    (head-start t)
-    (head-end t)
+    (λ c κs. search needs)
+    (λ c κs. search needs)
+    (λ c. search needs)
+    (λ c. search needs)
+    (λ c. search needs)
     (head-requires t)
-    (same-1 t)
+    (λ c. search needs)
     (returns t)
     (add-next t)
-    (tail-sub t)
-    (tail-start t)
-    (tail-end t)
+    (λ c. omega (arith, tail t (c .before) .room .fits))
+    (λ c. omega (arith, tail t (c .before) .room .fits))
+    (λ c. search needs)
     (tail-requires t)
     (add-end t)
     (atom-requires t)
-    (same-2 t)
+    (λ c. search needs)
     (returns-2 t)
-    (same-3 t)
+    (λ c. search needs)
     (returns-3 t)
-    (same-4 t)
+    (λ c. search needs)
     (returns-4 t)

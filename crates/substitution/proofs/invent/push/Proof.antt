@@ -5,37 +5,55 @@ use Rattle.substitution.proofs.InventLaws.{entry-asked, entry-fits, gro
 use Rattle.substitution.proofs.invent.push.Statement.{statement}
 use Rattle.substitution.proofs.invent.push.Tie as tie
 
+-- from a place back to an earlier one
+abbrev start : tie.After-gensym-len → tie.Start
+start c = c .before .before .before .before
+
+abbrev fits : tie.After-put → tie.Else1
+fits c = c .before .before .before .before
+
+abbrev copied : tie.After-gensym → tie.After-put
+copied c = c .before .before .before .before .before
+
 returns : tie.Need-returns
 returns c =
-    let s = c .before .before .before .before .before in
-    (grown-none (s .args .len) (s .args .mem .now) (omega (arith, s .pre .fits)), pushes-long (s .pre) (omega (arith, c .before .gensym-len .ensures)))
+    let d = c .before in
+    let s = start d in
+    (grown-none (s .args .len) (s .args .mem .now) (omega (arith, s .pre .fits)), pushes-long (s .pre) (omega (arith, d .gensym-len .ensures)))
 
 sub-put-entry : tie.Need-sub-put-entry
 sub-put-entry c =
-    let s = c .before .before .before .before .before .before .before .before .before .before .before .before .before .before .before .before in
-    omega (arith, entry-fits (s .pre), c .before .before .before .before .before .before .before .before .before .before .before .before .gensym-len .ensures)
+    let d = fits (copied (c .before .before)) .before in
+    omega (arith, entry-fits (start d .pre), d .gensym-len .ensures)
 
 slice-aggregate-put-entry : tie.Need-slice-aggregate-put-entry
 slice-aggregate-put-entry c =
-    let s = c .before .before .before .before .before .before .before .before .before .before .before .before .before .before .before .before .before in
-    rw (old-is (s .pre) (c .before .before .before .before .before .before .before .before .put .ensures)) (omega (arith, name-length (s .pre)))
+    let o = copied (c .before .before .before) in
+    let s = start (fits o .before) in
+    rw (old-is (s .pre) (o .put .ensures)) (omega (arith, name-length (s .pre)))
 
 slice-aggregate-put-entry-2 : tie.Need-slice-aggregate-put-entry-2
 slice-aggregate-put-entry-2 c =
-    let e = c .before .before .before .before .before .before .before .before .before .before .before .before .before .before .gensym-len .ensures in
-    rw (new-is _ _ (c .before .before .before .before .gensym .ensures .1) e) e
+    let g = c .before .before .before .before in
+    let e = fits (copied g) .before .gensym-len .ensures in
+    rw (new-is _ _ (g .gensym .ensures .1) e) e
 
 put-entry-requires : tie.Need-put-entry-requires
 put-entry-requires c κs =
-    let s = c .before .before .before .before .before .before .before .before .before .before .before .before .before .before .before .before .before .before in
-    let e = c .before .before .before .before .before .before .before .before .before .before .before .before .before .before .gensym-len .ensures in
-    entry-asked (s .pre) _ (c .before .before .before .before .before .before .before .before .before .put .ensures) (c .before .before .before .before .gensym .ensures .1) e (omega (arith, c .before .before .before .before .before .before .before .before .before .before .before .before .before .if1))
+    let g = c .before .before .before .before in
+    let o = copied g in
+    let e = fits o in
+    let d = e .before in
+    entry-asked (start d .pre) _ (o .put .ensures) (g .gensym .ensures .1) (d .gensym-len .ensures) (omega (arith, e .if1))
 
 returns-2 : tie.Need-returns-2
 returns-2 c =
-    let s = c .before .before .before .before .before .before .before .before .before .before .before .before .before .before .before .before .before .before .before .before .before in
-    let e = c .before .before .before .before .before .before .before .before .before .before .before .before .before .before .before .before .before .gensym-len .ensures in
-    pushed (s .pre) _ (c .before .before .before .before .before .before .before .before .before .before .before .before .put .ensures) (c .before .before .before .before .before .before .before .gensym .ensures .1) e (omega (arith, c .before .before .before .before .before .before .before .before .before .before .before .before .before .before .before .before .if1)) (c .before .before .put-entry .ensures)
+    let p = c .before .before in
+    let g = p .before .before .before .before .before in
+    let o = copied g in
+    let e = fits o in
+    let d = e .before in
+    pushed (start d .pre) _ (o .put .ensures) (g .gensym .ensures .1) (d .gensym-len .ensures) (omega (arith, e .if1)) (p .put-entry .ensures)
 
 pub push-spec : {M : Type 1} → statement M
 push-spec =

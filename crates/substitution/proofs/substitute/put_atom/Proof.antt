@@ -1,7 +1,6 @@
 -- `substitution::substitute::put_atom` meets its contract. Assumes nothing.
 use borrow.Author.Needs.{needs}
 use native.Mathlib.Omega.{arith}
-use mathlib.Core.Path.{refl}
 use Prim.Native.Nat.{_+_, _≤_}
 use lib.ListN.{length}
 use Rattle.names.specs.Names.{name-width}
@@ -37,7 +36,7 @@ returns : tie.Need-returns
 returns c =
     let d = c .before .before .before .before .before .before in
     let e = copied d in
-    written-atom (e .copy .ensures) (d .put-number .ensures) (c .before .before .put .ensures) (omega arith) refl (start e .pre .1 .1) (omega arith)
+    written-atom (e .copy .ensures) (d .put-number .ensures) (c .before .before .put .ensures) (omega arith) (start e .pre .1 .1) (omega arith)
 
 pub put-atom-spec : {M : Type 1} → statement M
 put-atom-spec =

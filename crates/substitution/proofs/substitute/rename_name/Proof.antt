@@ -28,7 +28,7 @@ here : (c : tie.After-sexp-view) → Atom (start c .args .mem .now) (c .sexp-vie
 here c = let p = start c .pre in atom (p .0) (c .sexp-view .ensures) (p .1 .0 .0) (p .1 .0 .1 .fields) (p .1 .0 .1 .there)
 
 low : (c : tie.After-sexp-view) → head-width ≤ start c .args .free
-low c = omega (arith, here c .head, start c .pre .1 .0 .1 .below)
+low c = omega (arith, here c .own-size, start c .pre .1 .0 .1 .below)
 
 -- the name that was found is within its limit
 short : (c : tie.After-lookup) → length (c .lookup .result .now) ≤ name-limit

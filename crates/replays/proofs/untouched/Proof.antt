@@ -1,10 +1,10 @@
--- `replay_sexps::sexps::untouched` is safe and ends. The measure is how many bytes are left.
+-- `replays::untouched` is safe and ends. The measure is how many bytes are left.
 -- Assumes nothing.
 use native.Mathlib.Omega.{arith}
 use Prim.Native.Nat.{_-_}
 use lib.ListN.{length}
-use Rattle.replay_sexps.proofs.sexps.untouched.Statement.{statement}
-use Rattle.replay_sexps.proofs.sexps.untouched.Tie as tie
+use Rattle.replays.proofs.untouched.Statement.{statement}
+use Rattle.replays.proofs.untouched.Tie as tie
 
 abbrev Inv-loop : tie.InvT-loop
 Inv-loop rest i₀ i = Unit {0}

@@ -1,11 +1,11 @@
--- `replay_sexps::sexps::fill` is safe and ends. The measure is how many bytes are left; memory keeps its length.
+-- `replays::fill` is safe and ends. The measure is how many bytes are left; memory keeps its length.
 -- Assumes nothing.
 use mathlib.Core.Path.{_≡_, refl}
 use native.Mathlib.Omega.{arith}
 use Prim.Native.Nat.{_-_}
 use lib.ListN.{length, length-set}
-use Rattle.replay_sexps.proofs.sexps.fill.Statement.{statement}
-use Rattle.replay_sexps.proofs.sexps.fill.Tie as tie
+use Rattle.replays.proofs.fill.Statement.{statement}
+use Rattle.replays.proofs.fill.Tie as tie
 
 abbrev Inv-loop : tie.InvT-loop
 Inv-loop mem₀ i₀ mem i = length mem ≡ length mem₀

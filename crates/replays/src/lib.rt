@@ -1,0 +1,79 @@
+// What the programs that replay stored cases share: what came of a case and what is said of it, and
+// memory that is filled before a call.
+use libc::STDIN_FILENO;
+use libc::STDOUT_FILENO;
+
+// What memory is filled with.
+const FILL: u8 = 7;
+
+// What came of one case.
+pub enum Outcome {
+    Agrees,
+    Differs,
+    CutOff,
+    Ended,
+}
+
+// Whether the bytes that fill a buffer can be read.
+pub fn reads(buf: &mut [u8]) -> bool {
+    io::read_full(STDIN_FILENO, buf) == buf.len()
+}
+
+// Agrees, or differs.
+pub fn judged(agrees: bool) -> Outcome {
+    if agrees {
+        Outcome::Agrees
+    } else {
+        Outcome::Differs
+    }
+}
+
+// Says of the case after `done` others of a kind what is wrong with it.
+fn fault(done: u64, kind: &[u8], what: &[u8]) {
+    io::write_all(STDOUT_FILENO, b"after ");
+    io::print_decimal(STDOUT_FILENO, done);
+    io::write_all(STDOUT_FILENO, kind);
+    io::write_all(STDOUT_FILENO, b" cases that agree, the next ");
+    io::write_all(STDOUT_FILENO, what);
+}
+
+// Says that all cases of a kind agree.
+fn all_agree(done: u64, kind: &[u8]) {
+    io::print_decimal(STDOUT_FILENO, done);
+    io::write_all(STDOUT_FILENO, kind);
+    io::write_all(STDOUT_FILENO, b" cases agree\n");
+}
+
+// Says what came of the case after `done` others of a kind, and answers whether to go on.
+pub fn goes_on(outcome: Outcome, done: u64, kind: &[u8]) -> bool {
+    match outcome {
+        Outcome::Agrees => {
+            return true;
+        }
+        Outcome::Ended => all_agree(done, kind),
+        Outcome::Differs => fault(done, kind, b"does not\n"),
+        Outcome::CutOff => fault(done, kind, b"is cut off\n"),
+    }
+    false
+}
+
+// Fills memory.
+pub fn fill(mem: &mut [u8]) {
+    let mut i = 0;
+    while i < mem.len() {
+        mem[i] = FILL;
+        i += 1;
+    }
+}
+
+// Whether no byte differs from what memory was filled with.
+pub fn untouched(rest: &[u8]) -> bool {
+    let mut i = 0;
+    while i < rest.len() {
+        if rest[i] != FILL {
+            return false;
+        }
+        i += 1;
+    }
+    true
+}
