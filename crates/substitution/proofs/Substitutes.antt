@@ -22,8 +22,7 @@ use Rattle.views.specs.declared.SexpView.{SexpView}
 use Rattle.substitution.specs.Arena.{MapAt, fitting, Substitutes, Kept, Measures, AtomAtStart, head-width, named}
 use Rattle.substitution.specs.Inventing.{atom-size}
 use Rattle.substitution.specs.RenameInCons.{rename-atom}
-use Rattle.substitution.proofs.Fits.{done-is}
-pub use Rattle.substitution.proofs.Fits.{fitting-fits, fitting-long}
+use Rattle.substitution.proofs.Fits.{done-is, fitting-fits, fitting-long}
 use Rattle.substitution.proofs.MapLaws.{name-field-length, name-filled}
 use Rattle.substitution.proofs.Views.{Atom, atom}
 

@@ -27,9 +27,8 @@ use Rattle.views.specs.declared.LetView.{LetView}
 use Rattle.substitution.specs.Arena.{head-width, fitting}
 use Rattle.walk.specs.Bodyforms.{desugar-sequential-let-bindings}
 use Rattle.walk.specs.Leaves.{BodyAtStart, KeepsBody, Desugars, desugared, left-bytes, LetsLeft, Nests, let-head, let-of}
-use Rattle.substitution.proofs.Fits.{Headed, done-is, whole, headed-refused, headed-done, read-wrote}
+use Rattle.substitution.proofs.Fits.{Headed, done-is, whole, headed-refused, headed-done, read-wrote, fitting-long}
 use Rattle.walk.proofs.LeafLaws.{skipped}
-use Rattle.substitution.proofs.Substitutes.{fitting-long}
 
 -- the bytes of a let of one binding before its body, of its L and the binding's bytes
 abbrev let-bytes : Loc → Bytes → Bytes

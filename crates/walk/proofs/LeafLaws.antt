@@ -23,11 +23,10 @@ use Rattle.walk.specs.Bodyforms.{Rules, body-rules, log-assign, rename-a
 use Rattle.walk.specs.Leaves.{IsValue, IsKept, KeepsBody, RenamesValue}
 use Rattle.substitution.specs.RenameInCons.{rename-atom}
 use Rattle.substitution.specs.Steps.{ret, body-size, step}
-use Rattle.substitution.proofs.Fits.{Headed, whole, head-at, rest-at, headed-refused, headed-done, read-wrote}
+use Rattle.substitution.proofs.Fits.{Headed, whole, head-at, rest-at, headed-refused, headed-done, read-wrote, fitting-long}
 use Rattle.substitution.proofs.Pairs.{start-at, on-part}
 use Rattle.substitution.proofs.MapLaws.{map-after}
 use Rattle.substitution.proofs.StepLaws.{step-fits}
-use Rattle.substitution.proofs.Substitutes.{fitting-long}
 
 -- the length of the record at the start
 pub skipped : {p : Part} {s : Bytes} {n : ℕ} → Skips p s n → (t : p .0) → p .2 t → At s 0 (p .1 t) → n ≡ length (p .1 t)
