@@ -7,6 +7,8 @@ use native.Mathlib.Omega.{arith}
 use Prim.Native.Nat.{ℕ, zero, suc, _+_, _*_, _/_, _%_, _^_, _-_, _≤_, _<_}
 use lib.ListN.{length, take, drop, length-append, length-drop}
 use lib.Seq.{drop-at, drop-append-seam, drop-drop, take-append-seam, take-at}
+use Rattle.names.specs.Segments.{Filled}
+use Rattle.names.proofs.Segments.{filled-then}
 use Rattle.names.specs.Names.{Bytes, number-field, number-after, number-of, name-field, name-width}
 
 -- one byte more
@@ -66,3 +68,17 @@ name-at s p n rest e =
       fits = omega arith;
       past = sym (drop-drop (length n) (p + name-width) s) ∙ ap (drop (length n)) after ∙ drop-append-seam n rest;
     }
+
+-- a name as a field
+pub name-field-length : (n : Bytes) → length (name-field n) ≡ name-width + length n
+unfolding name-field
+name-field-length n =
+    length-append (number-field name-width (length n)) n ∙ ap (λ (k : ℕ). k + length n) (number-field-length name-width (length n))
+
+-- a name written as a field: its length, then its bytes
+pub name-filled : {xs ys zs : Bytes} {at : ℕ} (n : Bytes) → Filled xs ys at (number-field name-width (length n)) name-width → Filled ys zs (at + name-width) n (length n)
+    → at + length (name-field n) ≤ length xs → Filled xs zs at (name-field n) (length (name-field n))
+unfolding name-field
+name-filled {at} n f g fit =
+    let w = number-field-length name-width (length n) in
+    filled-then {us = number-field name-width (length n)} (rw w f) g (omega arith) fit

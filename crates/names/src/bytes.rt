@@ -1,8 +1,9 @@
 // Bytes compared, written, read and moved at a place.
+use crate::NAME_WIDTH;
 ghost use mathlib.Core.Path.{_≡_};
 ghost use Prim.Native.Nat.{_+_, _^_, _≤_, _<_};
 ghost use lib.ListN.{length, take, drop};
-ghost use Rattle.names.specs.Names.{same, number-field, number-of};
+ghost use Rattle.names.specs.Names.{same, number-field, number-of, name-limit, name-field};
 ghost use Rattle.names.specs.Segments.{Filled};
 
 // Whether two names are equal.
@@ -99,4 +100,13 @@ pub fn put_number(mem: &mut [u8], at: usize, width: usize, n: usize)
         mem[at + width - done] = (left % 256) as u8;
         left /= 256;
     }
+}
+
+// Writes a name as a field at a place.
+pub fn put_name(mem: &mut [u8], at: usize, name: &[u8])
+    requires { ⌜ (length (now name) ≤ name-limit) × (at + length (name-field (now name)) ≤ length (now mem)) ⌝ }
+    ensures { λ _. ⌜ Filled (now (mem .entry)) (now (mem .exit)) at (name-field (now (name .entry))) (length (name-field (now (name .entry)))) ⌝ }
+{
+    put_number(mem, at, NAME_WIDTH, name.len());
+    put(mem, at + NAME_WIDTH, name);
 }

@@ -6,14 +6,13 @@ use Prim.Native.Nat.{ℕ, _+_, _*_, _-_, _≤_, _<_}
 use lib.ListN.{length, take, drop, length-append, length-drop, take-append-drop}
 use lib.Seq.{drop-drop, take-all, take-length}
 use Rattle.names.specs.Maps.{map-bytes, NameMap}
-use Rattle.names.specs.Names.{Bytes, ascii, gensym, name-field, name-width, number-field}
+use Rattle.names.specs.Names.{Bytes, ascii, gensym, name-field, name-width}
 use Rattle.names.specs.Segments.{SameOutside, Filled}
 use Rattle.names.proofs.Digits.{decimal-length-le}
-use Rattle.names.proofs.Fields.{number-field-length}
+use Rattle.names.proofs.Fields.{name-field-length}
 use Rattle.names.proofs.Gensym.{gensym-length}
 use Rattle.names.proofs.Frames.{same-wider}
 use Rattle.names.proofs.Parts.{part, part-length}
-use Rattle.names.proofs.Segments.{filled-then}
 use Rattle.substitution.specs.Arena.{MapAt}
 use Rattle.substitution.specs.Inventing.{atom-size, counter-limit, map-growth}
 
@@ -21,21 +20,8 @@ use Rattle.substitution.specs.Inventing.{atom-size, counter-limit, map-g
 abbrev pub entry : Bytes → Bytes → Bytes
 entry a b = name-field a ++ name-field b
 
-pub name-field-length : (n : Bytes) → length (name-field n) ≡ name-width + length n
-unfolding name-field
-name-field-length n =
-    length-append (number-field name-width (length n)) n ∙ ap (λ (k : ℕ). k + length n) (number-field-length name-width (length n))
-
 pub entry-length : (a b : Bytes) → length (entry a b) ≡ name-width + length a + (name-width + length b)
 entry-length a b = omega (arith, length-append (name-field a) (name-field b), name-field-length a, name-field-length b)
-
--- a name written as a field: its length, then its bytes
-pub name-filled : {xs ys zs : Bytes} {at : ℕ} (n : Bytes) → Filled xs ys at (number-field name-width (length n)) name-width → Filled ys zs (at + name-width) n (length n)
-    → at + length (name-field n) ≤ length xs → Filled xs zs at (name-field n) (length (name-field n))
-unfolding name-field
-name-filled {at} n f g fit =
-    let w = number-field-length name-width (length n) in
-    filled-then {us = number-field name-width (length n)} (rw w f) g (omega arith) fit
 
 -- an entry that is drawn is within the growth of its SA
 pub entry-bound : (n : Bytes) (c : ℕ) → c + 1 < counter-limit → length (entry n (gensym n c)) ≤ map-growth * atom-size (length n)

@@ -5,7 +5,7 @@ use Prim.Native.Nat.{ℕ, _+_, _-_, _≤_, _<_}
 use lib.ListN.{length, take, drop, length-append, length-drop}
 use lib.Seq.{take-all, length-take-le, take-take}
 use Rattle.names.specs.Maps.{NameMap, renamed, map-bytes}
-use Rattle.names.specs.Names.{Bytes, name-field, name-width, number-field}
+use Rattle.names.specs.Names.{Bytes, name-field}
 use Rattle.names.specs.Segments.{At, Filled}
 use Rattle.names.proofs.Frames.{same-refl, same-wider, filled-at, copied-at}
 use Rattle.names.proofs.Parts.{part}
@@ -23,7 +23,7 @@ use Rattle.substitution.specs.Arena.{MapAt, fitting, Substitutes, Kept, 
 use Rattle.substitution.specs.Inventing.{atom-size}
 use Rattle.substitution.specs.RenameInCons.{rename-atom}
 use Rattle.substitution.proofs.Fits.{done-is, fitting-fits, fitting-long}
-use Rattle.substitution.proofs.MapLaws.{name-field-length, name-filled}
+use Rattle.names.proofs.Fields.{name-field-length}
 use Rattle.substitution.proofs.Views.{Atom, atom}
 
 -- a record kept
@@ -64,16 +64,14 @@ others-kept m q t a = go t (λ i. q (i ∙ sym (index-of t a)))
 pub named-length : (s n : Bytes) → head-width ≤ length s → length (named s n) ≡ atom-size (length n)
 named-length s n le = omega (arith, length-append (take head-width s) (name-field n), length-take-le head-width s le, name-field-length n)
 
--- an SA written with another name: mark and L, the length, the name
-pub written-atom : {xs a b ys n : Bytes} {free p : ℕ} → Filled xs a free (drop 0 xs) head-width → Filled a b p (number-field name-width (length n)) name-width
-    → Filled b ys (p + name-width) n (length n) → p ≡ free + head-width → free + length (named xs n) ≤ length xs → head-width ≤ length xs
-    → Filled xs ys free (named xs n) (length (named xs n))
-written-atom {xs} {a} {n = n} {free} f g h e fit le =
+-- an SA written with another name: mark and L, then the name
+pub written-atom : (n : Bytes) {xs a ys : Bytes} {free p : ℕ} → Filled xs a free (drop 0 xs) head-width → Filled a ys p (name-field n) (length (name-field n))
+    → p ≡ free + head-width → free + length (named xs n) ≤ length xs → head-width ≤ length xs → Filled xs ys free (named xs n) (length (named xs n))
+written-atom n {xs} {a} {free = free} f g e fit le =
     let head = take head-width xs in
     let size : length head ≡ head-width = length-take-le head-width xs le in
     let copied = subst (Filled xs a free head) (sym size) record { frame = f .frame; got = f .got ∙ sym (take-take head-width head-width xs (omega arith)) } in
-    let field = name-filled n g h (omega (arith, f .frame .size, named-length xs n le, name-field-length n)) in
-    filled-then copied field (omega arith) fit
+    filled-then copied g (omega arith) fit
 
 -- the part lent for the map is the map
 pub map-part : {mem : Bytes} {len : ℕ} {m : NameMap} → MapAt mem len m → part mem (length mem - len) (length mem - (length mem - len)) ≡ map-bytes m

@@ -21,7 +21,7 @@ use Rattle.views.proofs.CountLaws.{SexpOf, sexp-by-mark}
 use Rattle.substitution.specs.Arena.{head-width, Measures, AtomAtStart, named}
 use Rattle.substitution.specs.Inventing.{atom-size}
 use Rattle.substitution.specs.RenameInCons.{rename-in-cons, rename-in-qq, rename-atom}
-use Rattle.substitution.proofs.MapLaws.{name-field-length}
+use Rattle.names.proofs.Fields.{name-field-length}
 
 -- a record that is no SC: both rules leave it, but for an atom outside `qq`
 pub record Leaf (v : SexpView) (t : Sexp) : Type 0 where

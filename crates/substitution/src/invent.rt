@@ -4,7 +4,7 @@ use crate::Invented;
 use names::NAME_LIMIT;
 use names::NAME_WIDTH;
 use names::bytes::put;
-use names::bytes::put_number;
+use names::bytes::put_name;
 use names::bytes::same;
 use names::make::gensym;
 use names::make::gensym_len;
@@ -19,15 +19,6 @@ ghost use Rattle.names.specs.Segments.{Filled};
 ghost use Rattle.records.specs.Records.{Sexp};
 ghost use Rattle.substitution.specs.Arena.{MapAt};
 ghost use Rattle.substitution.specs.Inventing.{NameRoom, Roomy, Grown, Pushes, InventsAtom, InventsSexp};
-
-// Writes a name as a field at a place.
-fn put_name(mem: &mut [u8], at: usize, name: &[u8])
-    requires { ⌜ (length (now name) ≤ name-limit) × (at + length (name-field (now name)) ≤ length (now mem)) ⌝ }
-    ensures { λ _. ⌜ Filled (now (mem .entry)) (now (mem .exit)) at (name-field (now (name .entry))) (length (name-field (now (name .entry)))) ⌝ }
-{
-    put_number(mem, at, NAME_WIDTH, name.len());
-    put(mem, at + NAME_WIDTH, name);
-}
 
 // Writes an entry of a map at a place.
 fn put_entry(mem: &mut [u8], at: usize, old: &[u8], new: &[u8])

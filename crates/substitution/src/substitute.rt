@@ -8,7 +8,7 @@ use names::NAME_LIMIT;
 use names::NAME_WIDTH;
 use names::bytes::copy;
 use names::bytes::put;
-use names::bytes::put_number;
+use names::bytes::put_name;
 use names::map::lookup;
 use records::LOC_WIDTH;
 use records::Step;
@@ -34,10 +34,8 @@ fn put_atom(mem: &mut [u8], free: usize, name: &[u8])
     requires { ⌜ free + length (named (now mem) (now name)) ≤ length (now mem) ⌝ }
     ensures { λ _. ⌜ Filled (now (mem .entry)) (now (mem .exit)) free (named (now (mem .entry)) (now (name .entry))) (length (named (now (mem .entry)) (now (name .entry)))) ⌝ }
 {
-    let at = free + MARK_WIDTH + LOC_WIDTH;
     copy(mem, 0, free, MARK_WIDTH + LOC_WIDTH);
-    put_number(mem, at, NAME_WIDTH, name.len());
-    put(mem, at + NAME_WIDTH, name);
+    put_name(mem, free + MARK_WIDTH + LOC_WIDTH, name);
 }
 
 // An SA, by the map.

@@ -9,6 +9,7 @@ use Rattle.names.specs.Answers.{max-counter}
 use Rattle.names.specs.Names.{Bytes, ascii, gensym, name-field}
 use Rattle.names.specs.Segments.{At}
 use Rattle.names.proofs.Digits.{decimal-length-le}
+use Rattle.names.proofs.Fields.{name-field-length}
 use Rattle.names.proofs.Gensym.{gensym-length}
 use Rattle.names.proofs.Parts.{part, part-length}
 use Rattle.records.specs.Limits.{level-limit, most-longest, work-factor}
@@ -17,7 +18,6 @@ use Rattle.records.specs.Valid.{SexpFields, BodyFields, BindingFields}
 use Rattle.views.specs.Views.{mark-width}
 use Rattle.substitution.specs.Arena.{head-width}
 use Rattle.substitution.specs.Inventing.{Roomy, atom-size, counter-limit, map-growth}
-use Rattle.substitution.proofs.MapLaws.{name-field-length}
 use Rattle.walk.specs.Room.{aside-factor, result-factor, level-room, room, HasRoom}
 use Rattle.walk.proofs.Limits.{most}
 

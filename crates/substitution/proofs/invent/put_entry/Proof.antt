@@ -2,7 +2,8 @@
 use borrow.Author.Needs.{needs}
 use native.Mathlib.Omega.{arith}
 use Rattle.names.proofs.Segments.{filled-then}
-use Rattle.substitution.proofs.MapLaws.{entry-length, name-field-length}
+use Rattle.names.proofs.Fields.{name-field-length}
+use Rattle.substitution.proofs.MapLaws.{entry-length}
 use Rattle.substitution.proofs.invent.put_entry.Statement.{statement}
 use Rattle.substitution.proofs.invent.put_entry.Tie as tie
 

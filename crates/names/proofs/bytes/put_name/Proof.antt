@@ -1,9 +1,9 @@
--- `substitution::invent::put_name` meets its contract. Assumes nothing.
+-- `names::bytes::put_name` meets its contract. Assumes nothing.
 use borrow.Author.Needs.{needs}
 use native.Mathlib.Omega.{arith}
-use Rattle.substitution.proofs.MapLaws.{name-field-length, name-filled}
-use Rattle.substitution.proofs.invent.put_name.Statement.{statement}
-use Rattle.substitution.proofs.invent.put_name.Tie as tie
+use Rattle.names.proofs.Fields.{name-field-length, name-filled}
+use Rattle.names.proofs.bytes.put_name.Statement.{statement}
+use Rattle.names.proofs.bytes.put_name.Tie as tie
 
 -- from the number back to the start
 abbrev start : tie.After-put-number → tie.Start
