@@ -6,8 +6,8 @@ use Prim.Native.Nat.{_+_, _*_, _≤_}
 use Prim.Native.String.{String}
 use native.Mathlib.Omega.{arith}
 use lib.ListN.{length, length-append, length-map}
-use Rattle.names.specs.Names.{Bytes, ascii, number-field, name-width, name-field}
-use Rattle.names.proofs.Fields.{number-field-length}
+use Rattle.names.specs.Names.{Bytes, ascii, number-field, name-field}
+use Rattle.names.proofs.Fields.{name-field-length, number-field-length}
 use Rattle.records.specs.Records.{Loc, record-bytes, bodies-count, bindings-count, byte, integer-width, integer-field, kind-field, Sexp, SN, SC, SI, SQ, SA, sexp-bytes, Pattern, Name, Complex, pattern-field, Body, BL, BQ, BV, BC, BM, BF, body-bytes, Bodies, []ᵇ, _∷ᵇ_, bodies-bytes, Tail, no-tail, tail, tail-bytes, Binding, BB, binding-bytes, Bindings, []ᵍ, _∷ᵍ_, bindings-bytes}
 use Rattle.records.specs.Sexps.{truthy}
 use Rattle.records.specs.Valid.{SexpFields, ValidPattern, BodyFields, BodiesFields, TailFields, BindingFields, BindingsFields}
@@ -23,10 +23,6 @@ fields-length m fs = length-append (ascii m) (flatten fs)
 field-length : (f : Bytes) (fs : List Bytes) → length (flatten (f ∷ fs)) ≡ length f + length (flatten fs)
 unfolding flatten
 field-length f fs = length-append f (flatten fs)
-
-name-length : (n : Bytes) → length (name-field n) ≡ name-width + length n
-unfolding name-field
-name-length n = omega (arith, length-append (number-field name-width (length n)) n, number-field-length name-width (length n))
 
 integer-length : (n : Bytes) → length (integer-field n) ≡ integer-width + length n
 unfolding integer-field
@@ -49,12 +45,12 @@ few-provided (SC l h t) f =
     )
 few-provided (SI l v) f = omega (arith, fields-length "SI" (l ∷ integer-field v ∷ []), field-length l (integer-field v ∷ []), field-length (integer-field v) [], integer-length v, f .0)
 few-provided (SQ l q n) f =
-    omega (arith, fields-length "SQ" (l ∷ byte q ∷ name-field n ∷ []), field-length l (byte q ∷ name-field n ∷ []), field-length (byte q) (name-field n ∷ []), field-length (name-field n) [], name-length n, f .0)
-few-provided (SA l n) f = omega (arith, fields-length "SA" (l ∷ name-field n ∷ []), field-length l (name-field n ∷ []), field-length (name-field n) [], name-length n, f .0)
+    omega (arith, fields-length "SQ" (l ∷ byte q ∷ name-field n ∷ []), field-length l (byte q ∷ name-field n ∷ []), field-length (byte q) (name-field n ∷ []), field-length (name-field n) [], name-field-length n, f .0)
+few-provided (SA l n) f = omega (arith, fields-length "SA" (l ∷ name-field n ∷ []), field-length l (name-field n ∷ []), field-length (name-field n) [], name-field-length n, f .0)
 
 pub few-pattern : (p : Pattern) → ValidPattern p → 4 * length (pattern-provides p) ≤ length (pattern-field p) + 2
 unfolding ValidPattern pattern-provides pattern-field
-few-pattern (Name n) f = omega (arith, name-length n)
+few-pattern (Name n) f = omega (arith, name-field-length n)
 few-pattern (Complex t) f = omega (arith, few-provided t (f .0))
 
 -- the capture args, after `&`

@@ -1,4 +1,4 @@
--- A map at the end of memory: fields and entries written, how many bytes they take, the map after one more, and in a part of memory. Assumes nothing.
+-- A map at the end of memory: how many bytes an entry takes, the map after one more, and in a part of memory. Assumes nothing.
 use mathlib.Core.Path.{_≡_, sym, ap, _∙_}
 use mathlib.Core.List.{_∷_, _++_, append-assoc}
 use native.Mathlib.Omega.{arith}

@@ -24,7 +24,7 @@ use Rattle.substitution.proofs.Fits.{done-is, fitting-fits, fitting-lon
 use Rattle.substitution.proofs.HeadLaws.{element}
 use Rattle.substitution.proofs.Pairs.{cons-width, cons-length}
 use Rattle.substitution.proofs.PlanLaws.{plan-says}
-use Rattle.substitution.proofs.Views.{valid-loc-of}
+use Rattle.substitution.proofs.Views.{valid-loc-of, least-sexp}
 
 -- a record is its mark, its L and the rest
 record Marked (v : Sexp) : Type 0 where
@@ -55,7 +55,7 @@ located {s} {at} v w a =
     record {
       there = at-place (at + mark-width) (omega (arith, k .width)) (at-left (loc-of v) (k .rest) b);
       width = l;
-      within = omega (arith, ap length (k .is), length-append (k .mark) (loc-of v ++ k .rest), length-append (loc-of v) (k .rest), k .width);
+      within = least-sexp v w;
     }
 
 -- a list of two elements up to the L of the second SC

@@ -130,3 +130,12 @@ valid-loc-of (SC l h t) p = p .0
 valid-loc-of (SI l v) p = p .0
 valid-loc-of (SQ l q n) p = p .0
 valid-loc-of (SA l n) p = p .0
+
+-- and stands in it behind the mark, so no record is shorter than the two
+pub least-sexp : (s : Sexp) → SexpFields s → head-width ≤ length (sexp-bytes s)
+unfolding SexpFields sexp-bytes record-bytes flatten ascii
+least-sexp (SN l) w = simp length-append (omega arith)
+least-sexp (SC l h t) w = simp length-append (omega (arith, w .0))
+least-sexp (SI l v) w = simp length-append (omega (arith, w .0))
+least-sexp (SQ l q n) w = simp length-append (omega (arith, w .0))
+least-sexp (SA l n) w = simp length-append (omega (arith, w .0))

@@ -1,4 +1,4 @@
--- The bodies, bindings and helpers of a record as lists of trees: where `after` comes to over them, and how many records they have. Assumes nothing.
+-- The bodies, bindings and helpers of a record as lists of trees: where `after` comes to over them, and how many records they have; and the bindings of a let as a list. Assumes nothing.
 use mathlib.Core.Path.{_≡_, refl, ap, _∙_}
 use mathlib.Core.List.{List, [], _∷_, _++_}
 use Prim.Native.Nat.{ℕ, suc, _+_, _≤_}

@@ -13,10 +13,11 @@ use Rattle.names.proofs.Fields.{name-field-length}
 use Rattle.names.proofs.Gensym.{gensym-length}
 use Rattle.names.proofs.Parts.{part, part-length}
 use Rattle.records.specs.Limits.{level-limit, most-longest, work-factor}
-use Rattle.records.specs.Records.{Loc, byte, record-bytes, Sexp, SN, SC, SI, SQ, SA, sexp-bytes, Name, pattern-field, Body, BL, BQ, BV, BC, BM, BF, body-bytes, no-tail, tail, tail-bytes, BB, binding-bytes, CF, form-bytes}
+use Rattle.records.specs.Records.{Loc, byte, record-bytes, Sexp, sexp-bytes, Name, pattern-field, Body, BL, BQ, BV, BC, BM, BF, body-bytes, no-tail, tail, tail-bytes, BB, binding-bytes, CF, form-bytes}
 use Rattle.records.specs.Valid.{SexpFields, BodyFields, BindingFields}
 use Rattle.views.specs.Views.{mark-width}
 use Rattle.substitution.specs.Arena.{head-width}
+use Rattle.substitution.proofs.Views.{least-sexp}
 use Rattle.substitution.specs.Inventing.{Roomy, atom-size, counter-limit, map-growth}
 use Rattle.walk.specs.Room.{aside-factor, result-factor, level-room, room, HasRoom}
 use Rattle.walk.proofs.Limits.{most}
@@ -65,15 +66,7 @@ module _ {F d : ℕ} {mem : Bytes} {free len : ℕ} where
         → held + (grown + map-growth * length (sexp-bytes t)) ≤ level-room F → c + length (sexp-bytes t) < counter-limit → Roomy t mem at (len + grown) c
     names-room t at c w there below more less = record { fields = w; there = there; fits = omega (arith, h .fits, room-level F d); counts = less }
 
--- an S record, and a body
-least-sexp : (s : Sexp) → SexpFields s → head-width ≤ length (sexp-bytes s)
-unfolding SexpFields sexp-bytes record-bytes flatten ascii
-least-sexp (SN l) w = simp length-append (omega arith)
-least-sexp (SC l h t) w = simp length-append (omega (arith, w .0))
-least-sexp (SI l v) w = simp length-append (omega (arith, w .0))
-least-sexp (SQ l q n) w = simp length-append (omega (arith, w .0))
-least-sexp (SA l n) w = simp length-append (omega (arith, w .0))
-
+-- the least length of a body
 least-body : (b : Body) → BodyFields b → mark-width + head-width ≤ length (body-bytes b)
 unfolding BodyFields body-bytes form-bytes tail-bytes record-bytes flatten ascii byte
 least-body (BL k l w h bs b) f = simp length-append (omega (arith, f .0, least-body b (f .5)))
