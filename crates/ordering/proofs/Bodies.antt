@@ -17,16 +17,16 @@ use Rattle.records.specs.Scan.{mark-index, body-marks}
 use Rattle.records.specs.Sexps.{truthy}
 use Rattle.records.specs.Valid.{SexpFields, ValidPattern, BodyFields, TailFields, BindingFields, lambda-depth, tail-lambda-depth, binding-lambda-depth, ValidBody}
 use Rattle.records.specs.declared.Family.the-variants.{Body as a-body, Binding as a-binding}
-use Rattle.views.specs.Parts.{Past, fixed-part, family-part, pattern-part, list-part, Skips}
-use Rattle.views.specs.Views.{mark-width, PastHead, Closes, SeesName, SeesTagged, PatternAt, TailAt, SeesCall, SeesLet, SeesLambda}
-use Rattle.views.specs.declared.NameView.{NameView}
-use Rattle.views.specs.declared.TaggedView.{TaggedView}
-use Rattle.views.specs.declared.LetView.{LetView}
-use Rattle.views.specs.declared.CallView.{CallView}
-use Rattle.views.specs.declared.LambdaView.{LambdaView}
-use Rattle.views.proofs.AnySexp.{mark-of}
-use Rattle.views.proofs.Places.{at-split}
-use Rattle.views.proofs.Views.{first-of, close-mark, close-head, close-on, close-step}
+use Rattle.records.specs.Parts.{Past, fixed-part, family-part, pattern-part, list-part, Skips}
+use Rattle.records.specs.Views.{mark-width, PastHead, Closes, SeesName, SeesTagged, PatternAt, TailAt, SeesCall, SeesLet, SeesLambda}
+use Rattle.records.specs.declared.NameView.{NameView}
+use Rattle.records.specs.declared.TaggedView.{TaggedView}
+use Rattle.records.specs.declared.LetView.{LetView}
+use Rattle.records.specs.declared.CallView.{CallView}
+use Rattle.records.specs.declared.LambdaView.{LambdaView}
+use Rattle.records.proofs.AnySexp.{mark-of}
+use Rattle.records.proofs.Places.{at-split}
+use Rattle.records.proofs.Views.{first-of, close-mark, close-head, close-on, close-step}
 use Rattle.ordering.specs.declared.Listed.{Listed}
 use Rattle.ordering.specs.Listing.{Names, Lists, Reaches, body-index, kind-part, member-part, all-words}
 use Rattle.ordering.specs.Provisions.{fields-part}

@@ -18,11 +18,11 @@ use Rattle.records.specs.Depth.{depth, binding-depth}
 use Rattle.records.specs.Valid.{ValidBody, BodyFields, BindingFields, lambda-depth, binding-lambda-depth}
 use Rattle.records.specs.declared.Family.the-variants.{Body as a-body}
 use Rattle.records.specs.Lists.{joined, Each}
-use Rattle.views.specs.Parts.{ValidBinding, Past, fixed-part, pattern-part, family-part}
-use Rattle.views.specs.Views.{Stands, PastHead, SeesLet}
-use Rattle.views.specs.declared.LetView.{LetView}
-use Rattle.views.proofs.Lists.{list-count, list-bytes, list-valid}
-use Rattle.views.proofs.Views.{opened, first-of, rest-of, step}
+use Rattle.records.specs.Parts.{ValidBinding, Past, fixed-part, pattern-part, family-part}
+use Rattle.records.specs.Views.{Stands, PastHead, SeesLet}
+use Rattle.records.specs.declared.LetView.{LetView}
+use Rattle.records.proofs.Lists.{list-count, list-bytes, list-valid}
+use Rattle.records.proofs.Views.{opened, first-of, rest-of, step}
 use Rattle.ordering.specs.declared.Listed.{Listed}
 use Rattle.ordering.specs.Assign.{nothing, need-limit, body-of, body-at, all-needs, Bound, BindingNames, FindsNames, Collectable, Let, Ordered}
 use Rattle.ordering.specs.Provisions.{Provisions, Added, ListsNames}

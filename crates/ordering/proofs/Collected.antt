@@ -13,7 +13,7 @@ use Rattle.names.proofs.Parts.{at-part}
 use Rattle.names.proofs.Places.{at-whole, at-place, at-left, at-right, at-join}
 use Rattle.records.specs.Records.{Binding, BB}
 use Rattle.records.specs.declared.Family.the-variants.{Body as a-body}
-use Rattle.views.specs.Parts.{family-part}
+use Rattle.records.specs.Parts.{family-part}
 use Rattle.ordering.specs.declared.Listed.{Listed}
 use Rattle.ordering.specs.Assign.{nothing, body-of, body-at, BodiesAt, all-needs}
 use Rattle.ordering.specs.Items.{Item, item-at, any, keep, gives, needed}

@@ -11,7 +11,7 @@ use Rattle.names.proofs.Frames.{same-then, get-below, filled-none, filled-set, 
 use Rattle.names.proofs.Order.{lt-or-le}
 use Rattle.names.proofs.Places.{at-whole, at-get, at-place}
 use Rattle.names.proofs.Segments.{filled-then}
-use Rattle.views.specs.Parts.{Part}
+use Rattle.records.specs.Parts.{Part}
 use Rattle.ordering.specs.Provisions.{places, Entry, Entries, Added, AddsOne, EntryIn, Adds, ListsNames}
 
 -- nothing is listed

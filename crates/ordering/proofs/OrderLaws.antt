@@ -20,15 +20,15 @@ use Rattle.records.specs.Valid.{AreBytes, BodyFields, IsLet, ValidAssign}
 use Rattle.records.specs.declared.Opening.the-variants.{Accepted, Refused}
 use Rattle.records.proofs.Accepted.{assign-format, opened-valid}
 use Rattle.records.proofs.Opened.{OpenedFrom, start}
-use Rattle.views.specs.Views.{SeesLet}
-use Rattle.views.specs.declared.LetView.{LetView}
+use Rattle.records.specs.Views.{SeesLet}
+use Rattle.records.specs.declared.LetView.{LetView}
 use Rattle.ordering.specs.Assign.{Let, Ordered}
 use Rattle.ordering.specs.Needs.{outcome-of}
 use Rattle.ordering.specs.OrderCall.{bindings-of, let-loc, stuck-answer, order-answer, order-of, order-call}
 use Rattle.ordering.specs.Toposort.{ordered, deadlock, rounds}
 use Rattle.ordering.specs.Words.{items, toposort-assign-bindings}
 use Rattle.ordering.specs.declared.Order.{Order}
-use Rattle.views.proofs.Lists.{list-count}
+use Rattle.records.proofs.Lists.{list-count}
 
 module _ {before after : Bytes} {c : ℕ} where
   -- the indices in order are written

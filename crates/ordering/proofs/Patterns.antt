@@ -11,11 +11,11 @@ use Rattle.names.specs.Segments.{At}
 use Rattle.names.proofs.Places.{at-get, at-place, at-right, at-into-drop, at-from-drop}
 use Rattle.records.specs.Records.{Sexp, SN, SC, SI, SQ, SA, sexp-bytes, Pattern, Name, Complex, pattern-field}
 use Rattle.records.specs.Valid.{SexpFields, ValidPattern}
-use Rattle.views.specs.Parts.{pattern-part}
-use Rattle.views.specs.Views.{LeafAt, SexpAt, SeesSexp, SeesName}
-use Rattle.views.specs.declared.NameView.{NameView}
-use Rattle.views.specs.declared.SexpView.{SexpView}
-use Rattle.views.proofs.Views.{first-of, rest-of}
+use Rattle.records.specs.Parts.{pattern-part}
+use Rattle.records.specs.Views.{LeafAt, SexpAt, SeesSexp, SeesName}
+use Rattle.records.specs.declared.NameView.{NameView}
+use Rattle.records.specs.declared.SexpView.{SexpView}
+use Rattle.records.proofs.Views.{first-of, rest-of}
 use Rattle.ordering.specs.Provisions.{fields-part, places, AddsOne, ListsNames}
 use Rattle.ordering.specs.Words.{make-provides-set, pattern-provides}
 use Rattle.ordering.specs.declared.Listed.{Listed}

@@ -13,7 +13,7 @@ use Rattle.records.specs.Limits.{level-limit, lambda-limit}
 use Rattle.records.specs.Records.{Bodies, []ᵇ, _∷ᵇ_, bodies-bytes, bodies-count, Bindings, []ᵍ, _∷ᵍ_, bindings-bytes, bindings-count}
 use Rattle.records.specs.Valid.{BodiesFields, BindingsFields, bodies-lambda-depth, bindings-lambda-depth}
 use Rattle.records.specs.Lists.{joined, Each}
-use Rattle.views.specs.Parts.{Part, list-part}
+use Rattle.records.specs.Parts.{Part, list-part}
 use Rattle.ordering.specs.declared.Listed.{Listed}
 use Rattle.ordering.specs.Listing.{Names, Reaches, member-part, all-words}
 use Rattle.ordering.specs.Words.{words, bodies-words, binding-words, bindings-words}

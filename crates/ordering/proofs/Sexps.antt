@@ -12,10 +12,10 @@ use Rattle.names.proofs.Places.{at-place, at-is}
 use Rattle.records.specs.Records.{Sexp, SN, SC, SI, SQ, SA, sexp-bytes}
 use Rattle.records.specs.Sexps.{all-zero, truthy}
 use Rattle.records.specs.Valid.{SexpFields}
-use Rattle.views.specs.Parts.{Part}
-use Rattle.views.specs.Views.{SexpAt, SeesSexp, LeafAt}
-use Rattle.views.specs.declared.SexpView.{SexpView}
-use Rattle.views.proofs.Views.{first-of, rest-of}
+use Rattle.records.specs.Parts.{Part}
+use Rattle.records.specs.Views.{SexpAt, SeesSexp, LeafAt}
+use Rattle.records.specs.declared.SexpView.{SexpView}
+use Rattle.records.proofs.Views.{first-of, rest-of}
 use Rattle.ordering.specs.declared.Listed.{Listed}
 use Rattle.ordering.specs.Listing.{Names, Lists, Reaches}
 use Rattle.ordering.specs.Provisions.{fields-part}

@@ -9,7 +9,7 @@ use Rattle.names.specs.Segments.{At}
 use Rattle.records.specs.Records.{Loc, SN, Kind, Pattern, Name, Body, BL, BV, body-bytes, Binding, BB, Bindings}
 use Rattle.records.specs.Valid.{ValidBody}
 use Rattle.records.specs.declared.Family.the-variants.{Binding as a-binding}
-use Rattle.views.specs.Parts.{family-part, list-part}
+use Rattle.records.specs.Parts.{family-part, list-part}
 use Rattle.ordering.specs.declared.Listed.{Listed}
 use Rattle.ordering.specs.declared.Order.{Order}
 use Rattle.ordering.specs.Listing.{all-words}

@@ -10,7 +10,7 @@ use Rattle.names.specs.Segments.{At}
 use Rattle.records.specs.Records.{Body, BL, BQ, BV, BC, BM, BF, body-bytes, Binding}
 use Rattle.records.specs.Valid.{ValidBody}
 use Rattle.records.specs.declared.Family.the-variants.{Body as a-body, Binding as a-binding}
-use Rattle.views.specs.Parts.{Part, family-part}
+use Rattle.records.specs.Parts.{Part, family-part}
 use Rattle.ordering.specs.declared.Listed.{Listed}
 use Rattle.ordering.specs.Needs.{needs-of}
 use Rattle.ordering.specs.Provisions.{Provisions, Added}

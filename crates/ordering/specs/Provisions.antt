@@ -8,7 +8,7 @@ use Rattle.names.specs.Names.{Bytes}
 use Rattle.names.specs.Segments.{At, SameOutside, Filled}
 use Rattle.records.specs.Records.{Sexp, sexp-bytes, Binding, BB}
 use Rattle.records.specs.Valid.{SexpFields}
-use Rattle.views.specs.Parts.{Part}
+use Rattle.records.specs.Parts.{Part}
 use Rattle.ordering.specs.declared.Listed.{Listed}
 use Rattle.ordering.specs.Needs.{binding-limit}
 use Rattle.ordering.specs.Words.{pattern-provides}

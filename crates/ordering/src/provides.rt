@@ -4,14 +4,14 @@
 use crate::Listed;
 use crate::PLACES;
 use names::bytes::same;
-use views::past::name_view;
-use views::sexps::sexp_view;
+use records::past::name_view;
+use records::sexps::sexp_view;
 ghost use mathlib.Core.List.{List};
 ghost use mathlib.Core.Path.{_≡_};
 ghost use Prim.Native.Nat.{_+_, _*_, _≤_, _<_};
 ghost use lib.ListN.{length};
 ghost use Rattle.records.specs.Records.{Binding};
-ghost use Rattle.views.specs.Parts.{pattern-part};
+ghost use Rattle.records.specs.Parts.{pattern-part};
 ghost use Rattle.ordering.specs.Provisions.{fields-part, places, Provisions, Given, AddsOne, ListsNames};
 ghost use Rattle.ordering.specs.Needs.{providers};
 ghost use Rattle.ordering.specs.Words.{make-provides-set, pattern-provides, items};

@@ -8,3 +8,6 @@ pub mod Depth
 pub mod Valid
 pub mod Scan
 pub mod Answer
+pub mod Parts
+pub mod Views
+pub mod Count

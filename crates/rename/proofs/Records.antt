@@ -6,9 +6,9 @@ use Rattle.names.specs.Segments.{At}
 use Rattle.records.specs.declared.Family.{Family}
 use Rattle.records.specs.declared.Wanted.{Wanted}
 use Rattle.rename.specs.Records.{wanted-family, RecordsIn}
-use Rattle.views.specs.declared.Counted.{Counted}
-use Rattle.views.specs.Count.{family-records, Counts}
-use Rattle.views.specs.Parts.{family-part}
+use Rattle.records.specs.declared.Counted.{Counted}
+use Rattle.records.specs.Count.{family-records, Counts}
+use Rattle.records.specs.Parts.{family-part}
 
 pub counts-records : {w : Wanted} {f : Family} {s : Bytes} {r : Counted} → f ≡ wanted-family w → Counts (family-part f) (family-records f) s r → RecordsIn w s (r .count)
 counts-records {w} {s} q h =

@@ -6,8 +6,8 @@ use Rattle.records.specs.declared.Family.{Family}
 use Rattle.records.specs.declared.Family.the-variants.{Body as a-body, Helper as a-helper, Form as a-form}
 use Rattle.records.specs.declared.Wanted.{Wanted}
 use Rattle.records.specs.declared.Wanted.the-variants.{Form, Helper, Assign}
-use Rattle.views.specs.Count.{family-records}
-use Rattle.views.specs.Parts.{family-part}
+use Rattle.records.specs.Count.{family-records}
+use Rattle.records.specs.Parts.{family-part}
 
 -- the family of the record that a call wants
 abbrev pub wanted-family : Wanted → Family

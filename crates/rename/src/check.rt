@@ -13,8 +13,8 @@ use records::MOST_LONGEST;
 use records::Opening;
 use records::WORK_FACTOR;
 use records::Wanted;
+use records::count::count_records;
 use records::input::open_input;
-use views::count::count_records;
 ghost use mathlib.Core.Path.{_≡_};
 ghost use Rattle.rename.specs.Records.{wanted-family, RecordsIn};
 

@@ -21,14 +21,14 @@ use Rattle.records.specs.declared.Opening.the-variants.{Accepted}
 use Rattle.records.specs.declared.Wanted.the-variants.{Form as a-whole-form}
 use Rattle.records.proofs.Accepted.{form-format, opened-valid}
 use Rattle.records.proofs.Opened.{OpenedFrom, start}
-use Rattle.views.specs.Views.{SeesForm, SeesValue}
-use Rattle.views.specs.declared.FormView.{FormView}
-use Rattle.views.proofs.AnySexp.{mark-of}
-use Rattle.views.proofs.Views.{first-of, rest-of}
-use Rattle.substitution.specs.Arena.{MapAt}
-use Rattle.substitution.specs.Inventing.{map-growth, Roomy, Grown, Draws, drew, too-long, InventsSexp}
-use Rattle.substitution.specs.Invent.{invent-new-names-sexp}
-use Rattle.substitution.specs.declared.Invented.{Invented}
+use Rattle.records.specs.Views.{SeesForm, SeesValue}
+use Rattle.records.specs.declared.FormView.{FormView}
+use Rattle.records.proofs.AnySexp.{mark-of}
+use Rattle.records.proofs.Views.{first-of, rest-of}
+use Rattle.walk.specs.Arena.{MapAt}
+use Rattle.walk.specs.Inventing.{map-growth, Roomy, Grown, Draws, drew, too-long, InventsSexp}
+use Rattle.walk.specs.Invent.{invent-new-names-sexp}
+use Rattle.walk.specs.declared.Invented.{Invented}
 use Rattle.replay_sexps.specs.Cases.{Taken, FormIn, SexpsIn, Ready}
 
 -- an input that is accepted is a form

@@ -8,7 +8,7 @@ use Rattle.names.specs.Segments.{At}
 use Rattle.records.specs.Limits.{most-longest}
 use Rattle.records.specs.Records.{Sexp, Form, sexp-bytes, form-bytes}
 use Rattle.records.specs.Valid.{SexpFields, ValidForm}
-use Rattle.substitution.specs.Arena.{MapAt}
+use Rattle.walk.specs.Arena.{MapAt}
 
 -- an input and a counter that a call takes
 pub record Taken (input : Bytes) (c : ℕ) : Type 0 where

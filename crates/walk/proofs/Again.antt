@@ -28,8 +28,8 @@ use Rattle.records.proofs.Readers.{Any, T-of, true-of}
 use Rattle.ordering.specs.Lawful.{_is-in_}
 use Rattle.ordering.specs.Toposort.{Outcome, ordered, deadlock}
 use Rattle.ordering.specs.Words.{toposort-assign-bindings}
-use Rattle.substitution.specs.Steps.{M, Out, done, refused, Visit, ret, refuse, out-of-fuel, _>>=_, _>>_, after, step, child, further, add-to-sum, take-from-sum, fits, form-size, helper-size}
-use Rattle.substitution.specs.Invent.{draw, invent-new-names-sexp, rename-in-cons-step}
+use Rattle.walk.specs.Steps.{M, Out, done, refused, Visit, ret, refuse, out-of-fuel, _>>=_, _>>_, after, step, child, further, add-to-sum, take-from-sum, fits, form-size, helper-size}
+use Rattle.walk.specs.Invent.{draw, invent-new-names-sexp, rename-in-cons-step}
 use Rattle.walk.specs.Patterns.{make-binding-unique, make-bindings-unique}
 use Rattle.walk.specs.Bodyforms.{each-body, call-tail, each-binding-body, Rules, args-then-in, rename-args-let, rename-args-desugared, rename-args-sequential, rename-assign-binding, rename-assign-bindings, rename-args-ordered, rename-args-assign, rename-args-bodyform, in-elements, rename-in-bodyform, body-rules, walk, log-assign, logged, no-binding}
 use Rattle.walk.specs.Helperforms.{FormRules, each-helper, further-helpers, rename-args-helperform, rename-in-helperform, rename-args-compileform, rename-in-compileform, rename-children-compileform, form-rules, form-walk, whole-walk, children-walk, helper-walk}

@@ -11,7 +11,7 @@ use Rattle.names.specs.Names.{ascii, name-field}
 use Rattle.names.specs.Maps.{NameMap}
 use Rattle.records.specs.Records.{Loc, Sexp, SN, SC, SI, SQ, SA, Pattern, Name, Complex, Body, BL, BQ, BV, BC, BM, BF, Bodies, []ᵇ, _∷ᵇ_, Tail, no-tail, tail, Binding, BB, Bindings, []ᵍ, _∷ᵍ_, Helper, HC, HM, HD, HN, HR, Helpers, []ʰ, _∷ʰ_, Form, CF, to-bindings, list-of, record-bytes, byte, integer-field, pattern-field, sexp-bytes, body-bytes, bodies-bytes, tail-bytes, binding-bytes, bindings-bytes, helper-bytes, helpers-bytes, form-bytes}
 use Rattle.records.specs.Sexps.{nilp, loc-of, is-atom, only}
-use Rattle.substitution.specs.RenameInCons.{requote, rename-in-cons, rename-in-qq, only-in-cons, only-in-qq}
+use Rattle.walk.specs.RenameInCons.{requote, rename-in-cons, rename-in-qq, only-in-cons, only-in-qq}
 
 unfoldable pub sexp-atoms : Sexp → ℕ
 sexp-atoms (SN l) = 0

@@ -7,7 +7,7 @@ use Prim.Native.String.{String}
 use lib.ListN.{length, replicate, take}
 use Rattle.names.specs.Names.{Bytes, ascii}
 use Rattle.records.specs.Records.{Loc, Sexp, SN, SC, SI, SA, Kind, Parallel, Sequential, Assign, Name, Complex, Body, BL, BV, BC, BF, []ᵇ, _∷ᵇ_, no-tail, Binding, BB, []ʰ, CF, to-bodies, to-bindings, body-bytes, form-bytes}
-use Rattle.substitution.specs.Steps.{Visit}
+use Rattle.walk.specs.Steps.{Visit}
 use Rattle.walk.specs.Calls.{computing-all, whole-call, children-visits}
 use Rattle.names.specs.Answers.{Result, name-call}
 use Rattle.ordering.specs.OrderCall.{order-call}

@@ -14,7 +14,7 @@ use Rattle.records.specs.Opened.{Opened, opened, closed, open-input}
 use Rattle.records.specs.Read.{Reader}
 use Rattle.records.proofs.Opened.{Start, start}
 use Rattle.ordering.specs.Lawful.{_is-in_}
-use Rattle.substitution.specs.Steps.{M, Out, done, refused, Visit}
+use Rattle.walk.specs.Steps.{M, Out, done, refused, Visit}
 use Rattle.walk.specs.Helperforms.{whole-walk, children-walk, helper-walk}
 use Rattle.walk.specs.Assigns.{HasOrder, AssignsOrdered}
 use Rattle.walk.specs.Calls.{visits, answered, rename-call, visits-of, whole-call, children-call, helper-call, whole-visits, children-visits, helper-visits}

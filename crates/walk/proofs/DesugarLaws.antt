@@ -20,14 +20,14 @@ use Rattle.records.specs.declared.Step.{Step}
 use Rattle.records.specs.declared.Step.the-variants.{Done, Refused}
 use Rattle.records.proofs.Answers.{made, unmade, gives-back}
 use Rattle.records.specs.Lists.{joined, Each}
-use Rattle.views.specs.Parts.{Skips, family-part, ValidBinding}
-use Rattle.views.proofs.Lists.{list-count, list-bytes, list-valid}
-use Rattle.views.specs.Views.{mark-width, SeesLet}
-use Rattle.views.specs.declared.LetView.{LetView}
-use Rattle.substitution.specs.Arena.{head-width, fitting}
+use Rattle.records.specs.Parts.{Skips, family-part, ValidBinding}
+use Rattle.records.proofs.Lists.{list-count, list-bytes, list-valid}
+use Rattle.records.specs.Views.{mark-width, SeesLet}
+use Rattle.records.specs.declared.LetView.{LetView}
+use Rattle.walk.specs.Arena.{head-width, fitting}
 use Rattle.walk.specs.Bodyforms.{desugar-sequential-let-bindings}
 use Rattle.walk.specs.Leaves.{BodyAtStart, KeepsBody, Desugars, desugared, left-bytes, LetsLeft, Nests, let-head, let-of}
-use Rattle.substitution.proofs.Fits.{Headed, done-is, whole, headed-refused, headed-done, read-wrote, fitting-long}
+use Rattle.walk.proofs.Fits.{Headed, done-is, whole, headed-refused, headed-done, read-wrote, fitting-long}
 use Rattle.walk.proofs.LeafLaws.{skipped}
 
 -- the bytes of a let of one binding before its body, of its L and the binding's bytes

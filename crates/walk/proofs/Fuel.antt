@@ -9,7 +9,7 @@ use Rattle.names.specs.Maps.{NameMap}
 use Rattle.records.specs.Records.{Loc, loc-number, Parallel, Sequential, Assign, Name, Complex, Body, BL, BQ, BV, BC, BM, BF, Bodies, []ᵇ, _∷ᵇ_, Tail, no-tail, tail, Binding, BB, list-of}
 use Rattle.ordering.specs.Toposort.{Outcome, ordered, deadlock}
 use Rattle.ordering.specs.Words.{toposort-assign-bindings}
-use Rattle.substitution.specs.Steps.{M, Out, done, refused, Visit, refuse, out-of-fuel, _>>=_, after, step, child, further, fits}
+use Rattle.walk.specs.Steps.{M, Out, done, refused, Visit, refuse, out-of-fuel, _>>=_, after, step, child, further, fits}
 use Rattle.walk.specs.Bodyforms.{each-body, call-tail, each-binding-body, Rules, args-then-in, rename-args-let, rename-args-desugared, rename-args-sequential, rename-assign-binding, rename-assign-bindings, rename-args-ordered, rename-args-assign, rename-args-bodyform, in-elements, rename-in-bodyform, body-rules, walk, log-assign, logged}
 
 -- where the first is finished, the second is the same

@@ -17,11 +17,11 @@ use Rattle.records.specs.Read.{binding-zone}
 use Rattle.records.specs.Records.{Loc, Sexp, SN, SC, SI, SQ, SA, Kind, Parallel, Pattern, Body, BL, Bodies, Tail, Binding, BB, Bindings, []ᵍ, _∷ᵍ_, Helper, Helpers, Form, to-bindings, list-of, byte}
 use Rattle.records.specs.Sexps.{nilp, loc-of, is-atom, only}
 use Rattle.records.specs.Valid.{ValidLoc, ValidName, ValidKeyword, ValidHint, ValidSexp, cons-depth, SexpFields, BodyFields, BodiesFields, TailFields, BindingFields, BindingsFields, HelperFields, HelpersFields, FormFields, lambda-depth, bodies-lambda-depth, tail-lambda-depth, binding-lambda-depth, bindings-lambda-depth, helper-lambda-depth, helpers-lambda-depth, form-lambda-depth, NoMod, BodiesNoMod, TailNoMod, BindingNoMod, BindingsNoMod, HelperNoMod, HelpersNoMod, FormNoMod}
-use Rattle.substitution.specs.RenameInCons.{requote, rename-in-cons, rename-in-qq, only-in-cons, only-in-qq, rename-atom}
+use Rattle.walk.specs.RenameInCons.{requote, rename-in-cons, rename-in-qq, only-in-cons, only-in-qq, rename-atom}
 use Rattle.walk.specs.Bodyforms.{desugar-sequential-let-bindings}
-use Rattle.substitution.proofs.Views.{valid-loc-of}
+use Rattle.walk.proofs.Views.{valid-loc-of}
 use Rattle.records.proofs.Exact.{bindings-counted}
-use Rattle.views.proofs.Lists.{list-count}
+use Rattle.records.proofs.Lists.{list-count}
 use Rattle.walk.proofs.All.{All, all-none, all-cons}
 
 -- every new name of a map is within its limit

@@ -15,18 +15,18 @@ use Rattle.records.specs.Valid.{SexpFields, BodyFields, ValidBody}
 use Rattle.records.specs.declared.Family.the-variants.{Body as a-body}
 use Rattle.records.specs.declared.Step.{Step}
 use Rattle.records.specs.declared.Step.the-variants.{Done, Refused}
-use Rattle.views.specs.Parts.{Part, Skips, family-part}
-use Rattle.views.specs.Views.{mark-width}
-use Rattle.views.proofs.Places.{at-split}
-use Rattle.substitution.specs.Arena.{MapAt, SexpAtStart, Kept, Substitutes, fitting, outcome}
+use Rattle.records.specs.Parts.{Part, Skips, family-part}
+use Rattle.records.specs.Views.{mark-width}
+use Rattle.records.proofs.Places.{at-split}
+use Rattle.walk.specs.Arena.{MapAt, SexpAtStart, Kept, Substitutes, fitting, outcome}
 use Rattle.walk.specs.Bodyforms.{Rules, body-rules, log-assign, rename-args-bodyform, rename-in-bodyform}
 use Rattle.walk.specs.Leaves.{IsValue, IsKept, KeepsBody, RenamesValue}
-use Rattle.substitution.specs.RenameInCons.{rename-atom}
-use Rattle.substitution.specs.Steps.{ret, body-size, step}
-use Rattle.substitution.proofs.Fits.{Headed, whole, head-at, rest-at, headed-refused, headed-done, read-wrote, fitting-long}
-use Rattle.substitution.proofs.Pairs.{start-at, on-part}
-use Rattle.substitution.proofs.MapLaws.{map-after}
-use Rattle.substitution.proofs.StepLaws.{step-fits}
+use Rattle.walk.specs.RenameInCons.{rename-atom}
+use Rattle.walk.specs.Steps.{ret, body-size, step}
+use Rattle.walk.proofs.Fits.{Headed, whole, head-at, rest-at, headed-refused, headed-done, read-wrote, fitting-long}
+use Rattle.walk.proofs.Pairs.{start-at, on-part}
+use Rattle.walk.proofs.MapLaws.{map-after}
+use Rattle.walk.proofs.StepLaws.{step-fits}
 
 -- the length of the record at the start
 pub skipped : {p : Part} {s : Bytes} {n : ℕ} → Skips p s n → (t : p .0) → p .2 t → At s 0 (p .1 t) → n ≡ length (p .1 t)

@@ -1,3 +1,17 @@
+pub mod Steps
+pub mod StepLaws
+pub mod Views
+pub mod Substitutes
+pub mod Fits
+pub mod Pairs
+pub mod PlanLaws
+pub mod Onlys
+pub mod HeadLaws
+pub mod QuoteLaws
+pub mod MapLaws
+pub mod InventLaws
+pub mod InventSexps
+pub mod JoinedMaps
 pub mod Cases
 pub mod All
 pub mod Fuel

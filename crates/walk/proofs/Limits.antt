@@ -26,13 +26,13 @@ use Rattle.records.proofs.Opened.{OpenedFrom, Start, start}
 use Rattle.ordering.specs.Lawful.{_is-in_}
 use Rattle.ordering.specs.Toposort.{Outcome, ordered, deadlock}
 use Rattle.ordering.specs.Words.{toposort-assign-bindings}
-use Rattle.substitution.specs.Steps.{M, Out, done, refused, Visit, ret, refuse, _>>=_, _>>_, after, step, child, further, add-to-sum, take-from-sum, fits}
-use Rattle.substitution.specs.Invent.{draw, invent-new-names-sexp, rename-in-cons-step}
+use Rattle.walk.specs.Steps.{M, Out, done, refused, Visit, ret, refuse, _>>=_, _>>_, after, step, child, further, add-to-sum, take-from-sum, fits}
+use Rattle.walk.specs.Invent.{draw, invent-new-names-sexp, rename-in-cons-step}
 use Rattle.walk.specs.Patterns.{make-binding-unique, make-bindings-unique}
 use Rattle.walk.specs.Bodyforms.{desugar-sequential-let-bindings, each-body, call-tail, each-binding-body, Rules, args-then-in, rename-args-let, rename-args-desugared, rename-args-sequential, rename-assign-binding, rename-assign-bindings, rename-args-ordered, rename-args-assign, rename-args-bodyform, in-elements, rename-in-bodyform, body-rules, walk, log-assign, logged, no-binding}
 use Rattle.walk.specs.Helperforms.{FormRules, each-helper, further-helpers, rename-args-helperform, rename-in-helperform, rename-args-compileform, rename-in-compileform, rename-children-compileform, form-rules, form-walk, whole-walk, children-walk, helper-walk}
 use Rattle.walk.specs.Calls.{visits, answered, rename-call, visits-of, whole-call, children-call, helper-call, whole-visits, children-visits, helper-visits}
-use Rattle.views.proofs.Lists.{list-count}
+use Rattle.records.proofs.Lists.{list-count}
 use Rattle.walk.proofs.All.{All, all-none, all-cons, all-append, all-map, all-in}
 use Rattle.walk.proofs.Sizes.{dbl, dbl-add, dbl-mono, dbl-least, dbl-twice, sum-at, order-below, order-sum, depth-to-bindings, depth-list-of, depth-desugar, positive, pick-depth, atoms-desugar, some-level, helper-positive, form-positive}
 use Rattle.walk.proofs.Atoms.{sexp-atoms, pattern-atoms, atoms, bodies-atoms, tail-atoms, binding-atoms, bindings-atoms, helper-atoms, helpers-atoms, form-atoms, patterns-of, inside-of, list-atoms, list-parts, atoms-to-bindings, atoms-list-of, most-cons, few-form, few-helper}

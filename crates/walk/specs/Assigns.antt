@@ -12,7 +12,7 @@ use Rattle.records.specs.Records.{loc-number, Assign, Body, BL, Binding, to-bin
 use Rattle.ordering.specs.Toposort.{ordered}
 use Rattle.ordering.specs.Lawful.{_is-in_, Full}
 use Rattle.ordering.specs.Words.{items, toposort-assign-bindings}
-use Rattle.substitution.specs.Steps.{done, Visit}
+use Rattle.walk.specs.Steps.{done, Visit}
 use Rattle.walk.specs.Bodyforms.{rename-assign-binding, walk, no-binding}
 
 -- some order of all the bindings has, for each of them, every bound name that its body needs provided by a binding placed before it

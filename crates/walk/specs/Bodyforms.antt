@@ -10,9 +10,9 @@ use Rattle.names.specs.Maps.{NameMap}
 use Rattle.records.specs.Records.{Loc, loc-number, SN, Parallel, Sequential, Assign, Name, Complex, Body, BL, BQ, BV, BC, BM, BF, Bodies, []ᵇ, _∷ᵇ_, Tail, no-tail, tail, Binding, BB, []ᵍ, _∷ᵍ_, to-bindings, list-of, byte}
 use Rattle.ordering.specs.Toposort.{ordered, deadlock}
 use Rattle.ordering.specs.Words.{toposort-assign-bindings}
-use Rattle.substitution.specs.RenameInCons.{rename-atom}
-use Rattle.substitution.specs.Steps.{M, Out, done, refused, Visit, _>>=_, ret, refuse, out-of-fuel, sexp-size, body-size, step, child, further}
-use Rattle.substitution.specs.Invent.{invent-new-names-sexp, rename-in-cons-step}
+use Rattle.walk.specs.RenameInCons.{rename-atom}
+use Rattle.walk.specs.Steps.{M, Out, done, refused, Visit, _>>=_, ret, refuse, out-of-fuel, sexp-size, body-size, step, child, further}
+use Rattle.walk.specs.Invent.{invent-new-names-sexp, rename-in-cons-step}
 use Rattle.walk.specs.Patterns.{make-bindings-unique}
 
 -- `desugar_sequential_let_bindings`: nested parallel lets, the first binding outermost, each with that binding's L, no keyword and no hint

@@ -13,12 +13,12 @@ use Rattle.records.specs.Records.{computing-records, form-bytes, helper-bytes}
 use Rattle.ordering.specs.Toposort.{computing-toposort}
 use Rattle.ordering.specs.OrderCall.{computing-order-call}
 use Rattle.ordering.specs.Words.{computing-words}
-use Rattle.substitution.specs.RenameInCons.{computing-rename-in-cons}
+use Rattle.walk.specs.RenameInCons.{computing-rename-in-cons}
 use Rattle.walk.specs.Bodyforms.{computing-bodyforms}
-use Rattle.substitution.specs.Invent.{computing-invent}
+use Rattle.walk.specs.Invent.{computing-invent}
 use Rattle.walk.specs.Patterns.{computing-patterns}
 use Rattle.walk.specs.Helperforms.{computing-helperforms, whole-walk, children-walk, helper-walk}
-use Rattle.substitution.specs.Steps.{computing-steps, M, Out, done, refused, Visit}
+use Rattle.walk.specs.Steps.{computing-steps, M, Out, done, refused, Visit}
 
 -- the assigns that a walk reached
 unfoldable pub visits : {A : Type 0} → Out A → List Visit

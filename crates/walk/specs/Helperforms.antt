@@ -6,8 +6,8 @@ use Prim.Native.Nat.{ℕ, zero, suc, _-_}
 use Rattle.names.specs.Maps.{NameMap}
 use Rattle.records.specs.Limits.{level-limit}
 use Rattle.records.specs.Records.{Helper, HC, HM, HD, HN, HR, Helpers, []ʰ, _∷ʰ_, Form, CF}
-use Rattle.substitution.specs.Steps.{M, _>>=_, ret, refuse, out-of-fuel, sexp-size, body-size, helper-size, form-size, step, child, further}
-use Rattle.substitution.specs.Invent.{invent-new-names-sexp, rename-in-cons-step}
+use Rattle.walk.specs.Steps.{M, _>>=_, ret, refuse, out-of-fuel, sexp-size, body-size, helper-size, form-size, step, child, further}
+use Rattle.walk.specs.Invent.{invent-new-names-sexp, rename-in-cons-step}
 use Rattle.walk.specs.Bodyforms.{Rules, args-then-in, walk}
 
 -- the four rules, on the records one level down

@@ -13,9 +13,9 @@ use Rattle.records.specs.Records.{Parallel, Sequential, Body, BL, BQ, BV, BC, B
 use Rattle.records.specs.Valid.{ValidBody, IsLet}
 use Rattle.records.specs.declared.Step.{Step}
 use Rattle.records.specs.Lists.{joined, Each}
-use Rattle.views.specs.Parts.{ValidBinding}
-use Rattle.views.specs.Views.{mark-width}
-use Rattle.substitution.specs.Arena.{MapAt, fitting, outcome}
+use Rattle.records.specs.Parts.{ValidBinding}
+use Rattle.records.specs.Views.{mark-width}
+use Rattle.walk.specs.Arena.{MapAt, fitting, outcome}
 use Rattle.walk.specs.Bodyforms.{Rules, body-rules, desugar-sequential-let-bindings}
 
 -- a B record stands at the start of memory, below free

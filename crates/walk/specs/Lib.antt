@@ -1,3 +1,10 @@
+pub mod RenameInCons
+pub mod Steps
+pub mod Sums
+pub mod Invent
+pub mod Arena
+pub mod Inventing
+pub mod Plans
 pub mod Patterns
 pub mod Bodyforms
 pub mod Helperforms

@@ -5,8 +5,8 @@ use mathlib.Core.List.{List, [], _∷_, _++_}
 use Prim.Native.Nat.{ℕ}
 use Rattle.names.specs.Maps.{NameMap}
 use Rattle.records.specs.Records.{Pattern, Name, Complex, Binding, BB}
-use Rattle.substitution.specs.Steps.{M, _>>=_, ret, sexp-size, child}
-use Rattle.substitution.specs.Invent.{draw, invent-new-names-sexp, rename-in-cons-step}
+use Rattle.walk.specs.Steps.{M, _>>=_, ret, sexp-size, child}
+use Rattle.walk.specs.Invent.{draw, invent-new-names-sexp, rename-in-cons-step}
 
 -- F: the longest record
 module _ (F : ℕ) where

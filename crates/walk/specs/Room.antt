@@ -3,7 +3,7 @@
 use Prim.Native.Nat.{ℕ, zero, suc, _+_, _*_, _≤_}
 use lib.ListN.{length}
 use Rattle.names.specs.Names.{Bytes}
-use Rattle.substitution.specs.Inventing.{map-growth}
+use Rattle.walk.specs.Inventing.{map-growth}
 
 -- what is set aside in one level, in times F: a desugared let and a pattern; or the patterns and names of a let; or the bindings of an assign
 abbrev pub aside-factor : ℕ

@@ -4,10 +4,10 @@ use names::bytes::copy;
 use names::bytes::put;
 use records::Family;
 use records::LOC_WIDTH;
+use records::MARK_WIDTH;
 use records::Step;
-use views::MARK_WIDTH;
-use views::bodies::let_view;
-use views::skip::skip;
+use records::bodies::let_view;
+use records::skip::skip;
 ghost use mathlib.Core.Path.{_≡_};
 ghost use mathlib.Core.List.{List};
 ghost use Prim.Native.Nat.{_+_, _≤_};
@@ -15,7 +15,7 @@ ghost use lib.ListN.{length};
 ghost use Rattle.names.specs.Segments.{Filled};
 ghost use Rattle.records.specs.Records.{Sequential, Body, Binding};
 ghost use Rattle.records.specs.Valid.{IsLet};
-ghost use Rattle.substitution.specs.Arena.{head-width};
+ghost use Rattle.walk.specs.Arena.{head-width};
 ghost use Rattle.walk.specs.Leaves.{BodyAtStart, Desugars, LetsLeft, Nests, let-head, let-of};
 
 // The bytes of a let of one binding, before the binding: mark, kind, L, K, hint and count.

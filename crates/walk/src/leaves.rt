@@ -1,16 +1,16 @@
 // B records that go no level down: kept as they are, or an S record alone by the map.
+use crate::keep::keep;
+use crate::substitute::rename_atom;
 use names::bytes::copy;
 use records::Family;
+use records::MARK_WIDTH;
 use records::Step;
-use substitution::keep::keep;
-use substitution::substitute::rename_atom;
-use views::MARK_WIDTH;
-use views::skip::skip;
+use records::skip::skip;
 ghost use Prim.Native.Nat.{_+_, _≤_};
 ghost use lib.ListN.{length};
 ghost use Rattle.names.specs.Maps.{NameMap};
 ghost use Rattle.records.specs.Records.{Body};
-ghost use Rattle.substitution.specs.Arena.{MapAt};
+ghost use Rattle.walk.specs.Arena.{MapAt};
 ghost use Rattle.walk.specs.Leaves.{BodyAtStart, IsValue, KeepsBody, RenamesValue};
 
 // Keeps the B record at the start of mem.

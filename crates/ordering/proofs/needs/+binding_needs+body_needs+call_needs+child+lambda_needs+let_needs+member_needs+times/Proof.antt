@@ -13,13 +13,13 @@ use Rattle.ordering.proofs.Bodies.{binding-reaches, let-reaches, call-r
 use Rattle.ordering.proofs.Several.{Goes, goes-first, goes-more, goes-end}
 use Rattle.ordering.proofs.Sexps.{reaches-none, reaches-part, lists-reaches}
 use Rattle.records.proofs.record.body_mark.Reads as body-mark-reads
-use Rattle.views.proofs.bodies.call_view.Reads as call-view-reads
-use Rattle.views.proofs.bodies.lambda_view.Reads as lambda-view-reads
-use Rattle.views.proofs.bodies.let_view.Reads as let-view-reads
-use Rattle.views.proofs.past.past_bytes.Reads as past-bytes-reads
-use Rattle.views.proofs.past.past_head.Reads as past-head-reads
-use Rattle.views.proofs.past.tagged_view.Reads as tagged-view-reads
-use Rattle.views.proofs.skip.skip.Reads as skip-reads
+use Rattle.records.proofs.bodies.call_view.Reads as call-view-reads
+use Rattle.records.proofs.bodies.lambda_view.Reads as lambda-view-reads
+use Rattle.records.proofs.bodies.let_view.Reads as let-view-reads
+use Rattle.records.proofs.past.past_bytes.Reads as past-bytes-reads
+use Rattle.records.proofs.past.past_head.Reads as past-head-reads
+use Rattle.records.proofs.past.tagged_view.Reads as tagged-view-reads
+use Rattle.records.proofs.skip.skip.Reads as skip-reads
 use Rattle.ordering.proofs.needs.binding_needs.Reads as binding-needs
 use Rattle.ordering.proofs.needs.binding_needs.Kinds as binding-needs-kinds
 use Rattle.ordering.proofs.needs.+binding_needs+body_needs+call_needs+child+lambda_needs+let_needs+member_needs+times.Lts-binding_needs as binding-needs-lts

@@ -6,7 +6,7 @@ use borrow.Fn.Kinds.{In}
 use borrow.Fn.PlainCycle.{Measures, is, falls, and}
 use lib.ListN.{length}
 use Rattle.ordering.proofs.Sexps.{lists-part, pair-lists, leaf-lists, nil-lists}
-use Rattle.views.proofs.sexps.sexp_view.Reads as sexp-view-reads
+use Rattle.records.proofs.sexps.sexp_view.Reads as sexp-view-reads
 use Rattle.ordering.proofs.needs.child_sexp.Reads as child-sexp
 use Rattle.ordering.proofs.needs.child_sexp.Kinds as child-sexp-kinds
 use Rattle.ordering.proofs.needs.+child_sexp+sexp_needs.Lts-child_sexp as child-sexp-lts

@@ -10,7 +10,7 @@ use Rattle.ordering.proofs.provides.sexp_names.Reads as sexp-names
 use Rattle.ordering.proofs.provides.sexp_names.Kinds as sexp-names-kinds
 use Rattle.ordering.proofs.provides.+sexp_names.Lts-sexp_names as sexp-names-lts
 use Rattle.ordering.proofs.provides.entry.Reads as entry-reads
-use Rattle.views.proofs.sexps.sexp_view.Reads as sexp-view-reads
+use Rattle.records.proofs.sexps.sexp_view.Reads as sexp-view-reads
 use Rattle.ordering.proofs.provides.+sexp_names.{statement}
 use Rattle.ordering.proofs.provides.+sexp_names.Tie.{close}
 

@@ -4,8 +4,8 @@ use native.Mathlib.Omega.{arith}
 use Prim.Native.Nat.{_+_, _*_, _≤_}
 use lib.ListN.{length}
 use borrow.Author.Needs.{needs}
-use Rattle.substitution.specs.Inventing.{Roomy}
-use Rattle.substitution.proofs.InventSexps.{roomy-part, drawn}
+use Rattle.walk.specs.Inventing.{Roomy}
+use Rattle.walk.proofs.InventSexps.{roomy-part, drawn}
 use Rattle.replay_sexps.proofs.CaseLaws.{no-map, roomy, ready}
 use Rattle.replay_sexps.proofs.sexps.draws.Statement.{statement}
 use Rattle.replay_sexps.proofs.sexps.draws.Tie as tie

@@ -4,8 +4,8 @@ use Prim.Native.Nat.{_-_}
 use lib.ListN.{length}
 use borrow.Author.Needs.{needs}
 use Rattle.names.proofs.Parts.{part-length}
-use Rattle.substitution.proofs.MapLaws.{map-of-part}
-use Rattle.substitution.proofs.Pairs.{start-at}
+use Rattle.walk.proofs.MapLaws.{map-of-part}
+use Rattle.walk.proofs.Pairs.{start-at}
 use Rattle.replay_sexps.proofs.sexps.renames.Statement.{statement}
 use Rattle.replay_sexps.proofs.sexps.renames.Tie as tie
 

@@ -12,7 +12,7 @@ use Rattle.walk.proofs.DesugarLaws.{First, first, body-left, lets-left,
 use Rattle.walk.proofs.desugar.nested.Reads as nested
 use Rattle.walk.proofs.desugar.nested.Kinds as nested-kinds
 use Rattle.walk.proofs.desugar.+nested.Lts-nested as nested-lts
-use Rattle.views.proofs.skip.skip.Reads as skip-reads
+use Rattle.records.proofs.skip.skip.Reads as skip-reads
 use Rattle.walk.proofs.desugar.put_let.Reads as put-let-reads
 use Rattle.walk.proofs.leaves.keep_body.Reads as keep-body-reads
 use Rattle.walk.proofs.desugar.+nested.{statement}

@@ -6,10 +6,10 @@ use Prim.Native.Nat.{_+_, _-_, _≤_}
 use lib.ListN.{length}
 use Rattle.names.proofs.Parts.{part-length}
 use Rattle.records.specs.Records.{body-bytes}
-use Rattle.views.specs.Views.{mark-width}
-use Rattle.substitution.proofs.Fits.{whole}
+use Rattle.records.specs.Views.{mark-width}
+use Rattle.walk.proofs.Fits.{whole}
 use Rattle.walk.proofs.LeafLaws.{Value, value, value-start, value-no-room, value-sums, value-refused, value-done}
-use Rattle.substitution.proofs.MapLaws.{map-of-part, map-after}
+use Rattle.walk.proofs.MapLaws.{map-of-part, map-after}
 use Rattle.walk.proofs.leaves.rename_value.Statement.{statement}
 use Rattle.walk.proofs.leaves.rename_value.Tie as tie
 

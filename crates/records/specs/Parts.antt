@@ -1,0 +1,86 @@
+-- What can be stepped over: the trees of each kind, their bytes, and which of them are within the format's limits.
+-- Assumes nothing.
+use mathlib.Core.Path.{_≡_}
+use mathlib.Core.List.{List, _++_}
+use Prim.Native.Nat.{ℕ, _+_, _≤_}
+use lib.ListN.{length}
+use Rattle.names.specs.Names.{Bytes, name-field}
+use Rattle.names.specs.Segments.{At}
+use Rattle.records.specs.declared.Family.{Family}
+use Rattle.records.specs.declared.Family.the-variants.{Body as a-body, Binding as a-binding, Helper as a-helper, Form as a-form}
+use Rattle.records.specs.declared.Scan.{Scan}
+use Rattle.records.specs.Depth.{bodies-depth, binding-depth, bindings-depth, helpers-depth}
+use Rattle.records.specs.Lists.{joined, Each}
+use Rattle.records.specs.Limits.{level-limit, lambda-limit}
+use Rattle.records.specs.Records.{integer-field, Sexp, sexp-bytes, Pattern, pattern-field, Body, body-bytes, Bodies, bodies-bytes, bodies-count, Binding, binding-bytes, Bindings, bindings-bytes, bindings-count, Helper, helper-bytes, Helpers, helpers-bytes, helpers-count, Form, form-bytes}
+use Rattle.records.specs.Valid.{ValidName, ValidInteger, ValidRaw, ValidKeyword, ValidHint, ValidSexp, ValidPattern, BodiesFields, BindingFields, BindingsFields, HelpersFields, bodies-lambda-depth, binding-lambda-depth, bindings-lambda-depth, helpers-lambda-depth, ValidBody, ValidHelper, ValidForm}
+
+-- trees, their bytes, and which of them are meant
+abbrev pub Part : Type 1
+Part = (A : Type 0) × (A → Bytes) × (A → Type 0)
+
+-- a binding that is taken by itself
+abbrev pub ValidBinding : Binding → Type 0
+ValidBinding b = BindingFields b × (binding-depth b ≤ level-limit) × (binding-lambda-depth b ≤ lambda-limit)
+
+-- the records of each family
+abbrev pub family-part : Family → Part
+family-part a-body = (Body, body-bytes, ValidBody)
+family-part a-binding = (Binding, binding-bytes, ValidBinding)
+family-part a-helper = (Helper, helper-bytes, ValidHelper)
+family-part a-form = (Form, form-bytes, ValidForm)
+
+-- S records
+abbrev pub sexp-part : Part
+sexp-part = (Sexp, sexp-bytes, ValidSexp)
+
+-- the fields: so many bytes, a name, an integer, R, K, a hint, a pattern
+abbrev pub fixed-part : ℕ → Part
+fixed-part w = (Bytes, (λ x. x), λ x. length x ≡ w)
+
+abbrev pub name-part : Part
+name-part = (Bytes, name-field, ValidName)
+
+abbrev pub integer-part : Part
+integer-part = (Bytes, integer-field, ValidInteger)
+
+abbrev pub raw-part : Part
+raw-part = (Bytes, (λ x. x), ValidRaw)
+
+abbrev pub keyword-part : Part
+keyword-part = (Bytes, (λ x. x), ValidKeyword)
+
+abbrev pub hint-part : Part
+hint-part = (Bytes, (λ x. x), ValidHint)
+
+abbrev pub pattern-part : Part
+pattern-part = (Pattern, pattern-field, ValidPattern)
+
+-- n of them, one after the other
+abbrev pub list-part : Part → ℕ → Part
+list-part p n = (List (p .0), joined (p .1), λ ts. (length ts ≡ n) × Each (p .2) ts)
+
+-- n bodies, bindings or helpers as they stand in a record
+abbrev pub bodies-part : ℕ → Part
+bodies-part n = (Bodies, bodies-bytes, λ bs. (bodies-count bs ≡ n) × BodiesFields bs × (bodies-depth bs ≤ level-limit) × (bodies-lambda-depth bs ≤ lambda-limit))
+
+abbrev pub bindings-part : ℕ → Part
+bindings-part n = (Bindings, bindings-bytes, λ bs. (bindings-count bs ≡ n) × BindingsFields bs × (bindings-depth bs ≤ level-limit) × (bindings-lambda-depth bs ≤ lambda-limit))
+
+abbrev pub helpers-part : ℕ → Part
+helpers-part n = (Helpers, helpers-bytes, λ hs. (helpers-count hs ≡ n) × HelpersFields hs × (helpers-depth hs ≤ level-limit) × (helpers-lambda-depth hs ≤ lambda-limit))
+
+-- r is the length of the tree whose bytes s starts with, whatever follows
+pub record Skips (p : Part) (s : Bytes) (r : ℕ) : Type 0 where
+  pub within : r ≤ length s
+  pub skips : (t : p .0) (more : Bytes) → p .2 t → s ≡ p .1 t ++ more → r ≡ length (p .1 t)
+
+-- r is where the tree ends whose bytes stand in s from `at` on, and in no case before `at`
+pub record Past (p : Part) (s : Bytes) (at r : ℕ) : Type 0 where
+  pub within : r ≤ length s
+  pub onward : at ≤ r
+  pub past : (t : p .0) → p .2 t → At s at (p .1 t) → r ≡ at + length (p .1 t)
+
+-- a reading that has come to a place
+abbrev pub from-place : ℕ → Scan
+from-place at = record { at = at; number = 0; place = 0; first = 0 }

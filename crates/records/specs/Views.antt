@@ -1,0 +1,241 @@
+-- What a view of a record says: where its fields and children stand, from its mark on.
+-- Assumes nothing.
+use mathlib.Core.Path.{_≡_}
+use mathlib.Core.List.{List, [], _∷_, _++_, flatten}
+use Prim.Native.Nat.{ℕ, _+_, _^_, _≤_, _<_}
+use lib.ListN.{length}
+use Rattle.names.specs.Names.{Bytes, number-field, name-field}
+use Rattle.names.specs.Segments.{At}
+use Rattle.records.specs.Read.{kind-of}
+use Rattle.records.specs.Records.{Loc, integer-field, Sexp, SN, SC, SI, SQ, SA, sexp-bytes, Kind, Pattern, Name, Complex, pattern-field, Body, BL, BQ, BV, BC, BM, BF, body-bytes, Bodies, bodies-bytes, bodies-count, Tail, no-tail, tail, tail-bytes, BB, binding-bytes, Bindings, bindings-bytes, bindings-count, HC, HM, HD, HN, HR, helper-bytes, Helpers, helpers-bytes, helpers-count, Form, CF, form-bytes}
+use Rattle.records.specs.Valid.{ValidLoc, ValidName, ValidInteger, ValidRaw, SexpFields, ValidSexp, ValidBody, ValidHelper, ValidForm}
+use Rattle.records.specs.Parts.{Past, fixed-part, ValidBinding}
+use Rattle.records.specs.declared.NameView.{NameView}
+use Rattle.records.specs.declared.TaggedView.{TaggedView}
+use Rattle.records.specs.declared.LetView.{LetView}
+use Rattle.records.specs.declared.BindingView.{BindingView}
+use Rattle.records.specs.declared.CallView.{CallView}
+use Rattle.records.specs.declared.LambdaView.{LambdaView}
+use Rattle.records.specs.declared.FormView.{FormView}
+use Rattle.records.specs.declared.NamedView.{NamedView}
+use Rattle.records.specs.declared.ArgsView.{ArgsView}
+use Rattle.records.specs.declared.NamespaceView.{NamespaceView}
+use Rattle.records.specs.declared.ConsView.{ConsView}
+use Rattle.records.specs.declared.SexpView.{SexpView}
+
+-- the bytes of a mark
+abbrev pub mark-width : ℕ
+mark-width = 2
+
+-- fields stand in s one after the other from p on
+pub record Stands (s : Bytes) (p : ℕ) (fields : List Bytes) : Type 0 where
+  pub there : At s p (flatten fields)
+
+-- the last fields of a record of n bytes, which stand in s behind its mark
+pub record Closes (s : Bytes) (p : ℕ) (fields : List Bytes) (n : ℕ) : Type 0 where
+  pub there : Stands s p fields
+  pub moved : 0 < p
+  pub whole : n ≡ p + length (flatten fields)
+
+-- r is where the mark and the L end that s starts with
+pub record PastHead (s : Bytes) (r : ℕ) : Type 0 where
+  pub within : r ≤ length s
+  pub moved : 0 < length s → 0 < r
+  pub past : (m : Bytes) (l : Loc) (fields : List Bytes) → length m ≡ mark-width → ValidLoc l → Stands s 0 (m ∷ l ∷ fields) → Stands s r fields
+  pub ends : (m : Bytes) (l : Loc) (fields : List Bytes) → length m ≡ mark-width → ValidLoc l → Stands s 0 (m ∷ l ∷ fields) → r ≡ length m + length l
+
+-- the bytes of a name, whose field ends at e
+pub record NameAt (s : Bytes) (v : NameView) (n : Bytes) (e : ℕ) : Type 0 where
+  pub bytes : At s (v .start) n
+  pub ends : v .end ≡ v .start + length n
+  pub past : v .end ≡ e
+
+-- bytes that stand at a place after their length: where they start and end
+pub record SeesBytes (field : Bytes → Bytes) (Fits : Bytes → Type 0) (s : Bytes) (at : ℕ) (v : NameView) : Type 0 where
+  pub forward : v .start ≤ v .end
+  pub within : v .end ≤ length s
+  pub sees : (n : Bytes) → Fits n → At s at (field n) → NameAt s v n (at + length (field n))
+
+-- a length of w bytes, and that many bytes
+unfoldable pub counted-field : ℕ → Bytes → Bytes
+counted-field w n = number-field w (length n) ++ n
+
+abbrev pub SeesCounted : ℕ → Bytes → ℕ → NameView → Type 0
+SeesCounted w = SeesBytes (counted-field w) (λ n. length n < 256 ^ w)
+
+-- a name, a number
+abbrev pub SeesName : Bytes → ℕ → NameView → Type 0
+SeesName = SeesBytes name-field ValidName
+
+abbrev pub SeesInteger : Bytes → ℕ → NameView → Type 0
+SeesInteger = SeesBytes integer-field ValidInteger
+
+-- a byte, and what follows it
+pub record TaggedAt (s : Bytes) (v : TaggedView) (b : ℕ) (bs : Bytes) : Type 0 where
+  pub tag : v .tag ≡ b
+  pub next : At s (v .next) bs
+
+-- a pattern, a tail
+unfoldable pub PatternAt : Bytes → TaggedView → Pattern → Type 0
+PatternAt s v (Name n) = TaggedAt s v 0 (name-field n)
+PatternAt s v (Complex x) = TaggedAt s v 1 (sexp-bytes x)
+
+unfoldable pub TailAt : Bytes → TaggedView → Tail → Type 0
+TailAt s v no-tail = v .tag ≡ 0
+TailAt s v (tail b) = TaggedAt s v 1 (body-bytes b)
+
+pub record SeesTagged (s : Bytes) (at : ℕ) (v : TaggedView) : Type 0 where
+  pub within : v .next ≤ length s
+  pub past : Past (fixed-part 1) s at (v .next)
+  pub pattern : (p : Pattern) → At s at (pattern-field p) → PatternAt s v p
+  pub tail-of : (t : Tail) → At s at (tail-bytes t) → TailAt s v t
+
+-- a BC: how many elements; they and the tail
+pub record CallAt (s : Bytes) (v : CallView) (bs : Bodies) (t : Tail) : Type 0 where
+  pub count : v .count ≡ bodies-count bs
+  pub rest : Stands s (v .first) (bodies-bytes bs ∷ tail-bytes t ∷ [])
+
+pub record SeesCall (s : Bytes) (v : CallView) : Type 0 where
+  pub within : v .first ≤ length s
+  pub sees : (l : Loc) (bs : Bodies) (t : Tail) → ValidBody (BC l bs t) → At s 0 (body-bytes (BC l bs t)) → CallAt s v bs t
+  pub closes : (l : Loc) (bs : Bodies) (t : Tail) → ValidBody (BC l bs t) → At s 0 (body-bytes (BC l bs t)) → Closes s (v .first) (bodies-bytes bs ∷ tail-bytes t ∷ []) (length (body-bytes (BC l bs t)))
+
+-- a BL: its fields; how many bindings; they and the body
+pub record LetAt (s : Bytes) (v : LetView) (k : Kind) (l : Loc) (w h : Bytes) (bs : Bindings) (b : Body) : Type 0 where
+  pub kind : kind-of (v .kind) ≡ k
+  pub loc : At s (v .loc) l
+  pub keyword : At s (v .keyword) w
+  pub hint : At s (v .hint) h
+  pub count : v .count ≡ bindings-count bs
+  pub rest : Stands s (v .first) (bindings-bytes bs ∷ body-bytes b ∷ [])
+
+pub record SeesLet (s : Bytes) (v : LetView) : Type 0 where
+  pub within : v .first ≤ length s
+  pub sees : (k : Kind) (l : Loc) (w h : Bytes) (bs : Bindings) (b : Body) → ValidBody (BL k l w h bs b) → At s 0 (body-bytes (BL k l w h bs b)) → LetAt s v k l w h bs b
+  pub closes : (k : Kind) (l : Loc) (w h : Bytes) (bs : Bindings) (b : Body) → ValidBody (BL k l w h bs b) → At s 0 (body-bytes (BL k l w h bs b)) → Closes s (v .first) (bindings-bytes bs ∷ body-bytes b ∷ []) (length (body-bytes (BL k l w h bs b)))
+
+-- a BB: its pattern and its body
+pub record BindingAt (s : Bytes) (v : BindingView) (p : Pattern) (b : Body) : Type 0 where
+  pub pattern : At s (v .pattern) (pattern-field p)
+  pub body : At s (v .body) (body-bytes b)
+
+pub record SeesBinding (s : Bytes) (v : BindingView) : Type 0 where
+  pub pattern-within : v .pattern ≤ length s
+  pub body-within : v .body ≤ length s
+  pub sees : (l nl : Loc) (p : Pattern) (b : Body) → ValidBinding (BB l nl p b) → At s 0 (binding-bytes (BB l nl p b)) → BindingAt s v p b
+
+-- a BF: K, capture args, captures, args and body
+pub record LambdaAt (s : Bytes) (v : LambdaView) (w : Bytes) (ca : Sexp) (c : Body) (a : Sexp) (b : Body) : Type 0 where
+  pub keyword : At s (v .keyword) w
+  pub binders : At s (v .binders) (sexp-bytes ca)
+  pub captures : At s (v .captures) (body-bytes c)
+  pub args : At s (v .args) (sexp-bytes a)
+  pub body : At s (v .body) (body-bytes b)
+
+pub record SeesLambda (s : Bytes) (v : LambdaView) : Type 0 where
+  pub binders-within : v .binders ≤ length s
+  pub args-within : v .args ≤ length s
+  pub sees : (l : Loc) (w : Bytes) (ca : Sexp) (c : Body) (a : Sexp) (b : Body) → ValidBody (BF l w ca c a b) → At s 0 (body-bytes (BF l w ca c a b)) → LambdaAt s v w ca c a b
+  pub closes : (l : Loc) (w : Bytes) (ca : Sexp) (c : Body) (a : Sexp) (b : Body) → ValidBody (BF l w ca c a b) → At s 0 (body-bytes (BF l w ca c a b)) → Closes s (v .args) (sexp-bytes a ∷ body-bytes b ∷ []) (length (body-bytes (BF l w ca c a b)))
+
+-- a BM: its CF
+abbrev pub SeesMod : Bytes → ℕ → Type 0
+SeesMod s v = (l : Loc) (f : Form) → ValidBody (BM l f) → At s 0 (body-bytes (BM l f)) → At s v (form-bytes f)
+
+-- a BQ, a BV: its S record
+abbrev pub SeesQuote : Bytes → ℕ → Type 0
+SeesQuote s v = (x : Sexp) → At s 0 (body-bytes (BQ x)) → At s v (sexp-bytes x)
+
+abbrev pub SeesValue : Bytes → ℕ → Type 0
+SeesValue s v = (x : Sexp) → At s 0 (body-bytes (BV x)) → At s v (sexp-bytes x)
+
+-- a CF: R and args; how many helpers; they and the body
+pub record FormAt (s : Bytes) (v : FormView) (r : Bytes) (a : Sexp) (hs : Helpers) (b : Body) : Type 0 where
+  pub raw : At s (v .raw) r
+  pub args : At s (v .args) (sexp-bytes a)
+  pub count : v .count ≡ helpers-count hs
+  pub rest : Stands s (v .first) (helpers-bytes hs ∷ body-bytes b ∷ [])
+
+abbrev pub SeesForm : Bytes → FormView → Type 0
+SeesForm s v = (l : Loc) (r : Bytes) (a : Sexp) (hs : Helpers) (b : Body) → ValidForm (CF l r a hs b) → At s 0 (form-bytes (CF l r a hs b)) → FormAt s v r a hs b
+
+-- a name and R, and the fields after them
+pub record NamedAt (s : Bytes) (v : NamedView) (n r : Bytes) (fields : List Bytes) : Type 0 where
+  pub name : At s (v .name) (name-field n)
+  pub raw : At s (v .raw) r
+  pub rest : Stands s (v .next) fields
+
+pub record PastNamed (s : Bytes) (at : ℕ) (v : NamedView) : Type 0 where
+  pub within : v .next ≤ length s
+  pub past : (n r : Bytes) (fields : List Bytes) → ValidName n → ValidRaw r → Stands s at (name-field n ∷ r ∷ fields) → NamedAt s v n r fields
+
+-- a name, R and args, and the fields after them
+pub record ArgsAt (s : Bytes) (v : ArgsView) (n r : Bytes) (a : Sexp) (fields : List Bytes) : Type 0 where
+  pub name : At s (v .name) (name-field n)
+  pub raw : At s (v .raw) r
+  pub args : At s (v .args) (sexp-bytes a)
+  pub rest : Stands s (v .next) fields
+
+pub record PastArgs (s : Bytes) (at : ℕ) (v : ArgsView) : Type 0 where
+  pub past : (n r : Bytes) (a : Sexp) (fields : List Bytes) → ValidName n → ValidRaw r → ValidSexp a → Stands s at (name-field n ∷ r ∷ sexp-bytes a ∷ fields) → ArgsAt s v n r a fields
+
+-- an HD, an HC, an HM
+abbrev pub SeesFunction : Bytes → ArgsView → Type 0
+SeesFunction s v = (l : Loc) (i : ℕ) (n r : Bytes) (a : Sexp) (b : Body) → ValidHelper (HD l i n r a b) → At s 0 (helper-bytes (HD l i n r a b)) → ArgsAt s v n r a (body-bytes b ∷ [])
+
+abbrev pub SeesConstant : Bytes → NamedView → Type 0
+SeesConstant s v = (l : Loc) (n r : Bytes) (b : Body) → ValidHelper (HC l n r b) → At s 0 (helper-bytes (HC l n r b)) → NamedAt s v n r (body-bytes b ∷ [])
+
+abbrev pub SeesMacro : Bytes → ArgsView → Type 0
+SeesMacro s v = (l : Loc) (n r : Bytes) (a : Sexp) (f : Form) → ValidHelper (HM l n r a f) → At s 0 (helper-bytes (HM l n r a f)) → ArgsAt s v n r a (form-bytes f ∷ [])
+
+-- an HN: name and R; how many helpers; they
+pub record NamespaceAt (s : Bytes) (v : NamespaceView) (n r : Bytes) (hs : Helpers) : Type 0 where
+  pub name : At s (v .name) (name-field n)
+  pub raw : At s (v .raw) r
+  pub count : v .count ≡ helpers-count hs
+  pub rest : At s (v .first) (helpers-bytes hs)
+
+abbrev pub SeesNamespace : Bytes → NamespaceView → Type 0
+SeesNamespace s v = (l : Loc) (n r : Bytes) (hs : Helpers) → ValidHelper (HN l n r hs) → At s 0 (helper-bytes (HN l n r hs)) → NamespaceAt s v n r hs
+
+-- an HR
+abbrev pub SeesReference : Bytes → NamedView → Type 0
+SeesReference s v = (l : Loc) (n r : Bytes) → ValidHelper (HR l n r) → At s 0 (helper-bytes (HR l n r)) → NamedAt s v n r []
+
+-- an SC: its head and its tail
+pub record ConsAt (s : Bytes) (v : ConsView) (h t : Sexp) : Type 0 where
+  pub head : At s (v .head) (sexp-bytes h)
+  pub tail : At s (v .tail) (sexp-bytes t)
+
+abbrev pub SeesCons : Bytes → ConsView → Type 0
+SeesCons s v = (l : Loc) (h t : Sexp) → ValidSexp (SC l h t) → At s 0 (sexp-bytes (SC l h t)) → ConsAt s v h t
+
+-- an SA: its name
+abbrev pub SeesAtom : Bytes → ℕ → Type 0
+SeesAtom s v = (l : Loc) (n : Bytes) → ValidSexp (SA l n) → At s 0 (sexp-bytes (SA l n)) → At s v (name-field n)
+
+-- an SI, SQ or SA by its bytes
+abbrev pub leaf-of : NameView → SexpView
+leaf-of v = record { tag = 2; start = v .start; end = v .end }
+
+-- the bytes b of a record of n bytes
+pub record LeafAt (s : Bytes) (v : SexpView) (n : ℕ) (b : Bytes) : Type 0 where
+  pub tag : v .tag ≡ 2
+  pub bytes : At s (v .start) b
+  pub ends : v .end ≡ v .start + length b
+  pub whole : v .end ≡ n
+
+-- an SN; an SC, whose tail stands behind its head; an SI, SQ or SA
+unfoldable pub SexpAt : Bytes → SexpView → Sexp → Type 0
+SexpAt s v (SN l) = (v .tag ≡ 0) × (v .end ≡ length (sexp-bytes (SN l)))
+SexpAt s v (SC l h t) = (v .tag ≡ 1) × Stands s (v .start) (sexp-bytes h ∷ sexp-bytes t ∷ []) × (length (sexp-bytes (SC l h t)) ≡ v .start + length (sexp-bytes h) + length (sexp-bytes t))
+SexpAt s v (SI l b) = LeafAt s v (length (sexp-bytes (SI l b))) b
+SexpAt s v (SQ l q n) = LeafAt s v (length (sexp-bytes (SQ l q n))) n
+SexpAt s v (SA l n) = LeafAt s v (length (sexp-bytes (SA l n))) n
+
+pub record SeesSexp (s : Bytes) (v : SexpView) : Type 0 where
+  pub forward : v .start ≤ v .end
+  pub within : v .end ≤ length s
+  pub moved : v .tag ≡ 1 → 0 < v .start
+  pub sees : (t : Sexp) → SexpFields t → At s 0 (sexp-bytes t) → SexpAt s v t

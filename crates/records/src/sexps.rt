@@ -1,0 +1,82 @@
+// Views of the S records.
+use crate::ConsView;
+use crate::NameView;
+use crate::SexpView;
+use crate::past::integer_view;
+use crate::past::name_view;
+use crate::past::past_bytes;
+use crate::past::past_head;
+use crate::sexp::sexp_mark;
+use crate::skip::past_sexp;
+ghost use mathlib.Core.Path.{_≡_};
+ghost use Rattle.records.specs.Sexps.{all-zero};
+ghost use Rattle.records.specs.Views.{SeesCons, SeesAtom, SeesSexp, leaf-of};
+
+// An SC.
+pub fn cons_view(s: &[u8]) -> ConsView
+    ensures { λ r. ⌜ SeesCons (now (s .entry)) r ⌝ }
+{
+    let head = past_head(s);
+    let tail = past_sexp(s, head);
+    ConsView { head, tail }
+}
+
+// An SA: where its name starts.
+pub fn atom_view(s: &[u8]) -> usize
+    ensures { λ r. ⌜ SeesAtom (now (s .entry)) r ⌝ }
+{
+    past_head(s)
+}
+
+// An SI, SQ or SA by its bytes.
+fn leaf(v: NameView) -> SexpView
+    ensures { λ r. ⌜ r ≡ leaf-of v ⌝ }
+{
+    SexpView {
+        tag: 2,
+        start: v.start,
+        end: v.end,
+    }
+}
+
+// An S record of any kind.
+pub fn sexp_view(s: &[u8]) -> SexpView
+    ensures { λ r. ⌜ SeesSexp (now (s .entry)) r ⌝ }
+{
+    let head = past_head(s);
+    let k = sexp_mark(s);
+    match k {
+        0 => SexpView {
+            tag: 0,
+            start: head,
+            end: head,
+        },
+        1 => SexpView {
+            tag: 1,
+            start: head,
+            end: head,
+        },
+        2 => leaf(integer_view(s, head)),
+        3 => leaf(name_view(s, past_bytes(s, head, 1))),
+        4 => leaf(name_view(s, head)),
+        _ => SexpView {
+            tag: 3,
+            start: s.len(),
+            end: s.len(),
+        },
+    }
+}
+
+// Whether every byte is 00.
+pub fn all_zero(s: &[u8]) -> bool
+    ensures { λ r. ⌜ r ≡ all-zero (now (s .entry)) ⌝ }
+{
+    let mut i = 0;
+    while i < s.len() {
+        if s[i] != 0 {
+            return false;
+        }
+        i += 1;
+    }
+    true
+}

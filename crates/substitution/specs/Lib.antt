@@ -1,7 +1,0 @@
-pub mod RenameInCons
-pub mod Steps
-pub mod Sums
-pub mod Invent
-pub mod Arena
-pub mod Inventing
-pub mod Plans

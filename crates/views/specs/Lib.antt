@@ -1,3 +1,0 @@
-pub mod Parts
-pub mod Views
-pub mod Count

@@ -1,0 +1,84 @@
+-- Joined maps: names drawn onto a map are those drawn onto none, joined before it; and in memory the newer of two joined maps is the map of what stands
+-- below the older one. Assumes nothing.
+use mathlib.Core.Path.{_≡_, refl, sym, ap, _∙_}
+use mathlib.Core.Bool.{Bool, true, false}
+use mathlib.Core.List.{List, [], _∷_, _++_, append-assoc}
+use native.Mathlib.Omega.{arith}
+use Prim.Native.Nat.{ℕ, _+_, _-_}
+use lib.ListN.{length, take, drop, length-append, length-drop}
+use lib.Seq.{length-take-le, take-append-seam}
+use Rattle.names.specs.Maps.{NameMap, map-bytes}
+use Rattle.names.specs.Names.{Bytes, ascii, same, name-field}
+use Rattle.names.proofs.Places.{take-drop}
+use Rattle.records.specs.Records.{Sexp, SN, SC, SI, SQ, SA}
+use Rattle.walk.specs.Arena.{MapAt}
+use Rattle.walk.specs.Invent.{draw, invent-new-names-sexp}
+use Rattle.walk.specs.Steps.{M, Out, done, refused, Visit, _>>=_, after, ret}
+
+-- what a run gives, by a function of its value
+unfoldable pub on-value : {A B : Type 0} → (A → B) → Out A → Out B
+on-value f (done log a c x) = done log (f a) c x
+on-value f (refused log n p) = refused log n p
+
+after-on-value : {A B : Type 0} (f : A → B) (log : List Visit) (o : Out A) → after log (on-value f o) ≡ on-value f (after log o)
+unfolding after on-value
+after-on-value f log (done l a c x) = refl
+after-on-value f log (refused l n p) = refl
+
+module _ (k : NameMap) where
+  abbrev onto : NameMap → NameMap
+  onto m = m ++ k
+
+  pub invent-onto : (m : NameMap) (s : Sexp) (c x : ℕ) → invent-new-names-sexp (m ++ k) s c x ≡ on-value onto (invent-new-names-sexp m s c x)
+  unfolding invent-new-names-sexp ret on-value _>>=_
+  invent-onto m (SN l) c x = refl
+  invent-onto m (SC l h t) c x = ap run (invent-onto m h c x) ∙ go (λ m′ c′ x′. invent-onto m′ t c′ x′) (invent-new-names-sexp m h c x)
+    where
+      run : Out NameMap → Out NameMap
+      run o = elim o as (λ _. Out NameMap) [ done log m′ c′ x′ ↦ after log (invent-new-names-sexp m′ t c′ x′) | refused log n p ↦ refused log n p ]
+
+      go : ((m : NameMap) (c x : ℕ) → invent-new-names-sexp (m ++ k) t c x ≡ on-value onto (invent-new-names-sexp m t c x)) → (o : Out NameMap)
+          → run (on-value onto o) ≡ on-value onto (run o)
+      go h (done log m′ c′ x′) = ap (after log) (h m′ c′ x′) ∙ after-on-value onto log (invent-new-names-sexp m′ t c′ x′)
+      go h (refused log n p) = refl
+  invent-onto m (SI l v) c x = refl
+  invent-onto m (SQ l q n) c x = refl
+  invent-onto m (SA l n) c x = go (same n (ascii "@"))
+    where
+      drawn : NameMap → Out Bytes → Out NameMap
+      drawn m o = elim o as (λ _. Out NameMap) [ done log n′ c′ x′ ↦ after log (done [] ((n, n′) ∷ m) c′ x′) | refused log i p ↦ refused log i p ]
+
+      draws : (o : Out Bytes) → drawn (onto m) o ≡ on-value onto (drawn m o)
+      draws (done log n′ c′ x′) = after-on-value onto log (done [] ((n, n′) ∷ m) c′ x′)
+      draws (refused log i p) = refl
+
+      by-name : NameMap → Bool → M NameMap
+      by-name m b = elim b as (λ _. M NameMap) [ true ↦ ret m | false ↦ (draw n >>= λ n′. ret ((n, n′) ∷ m)) ]
+
+      go : (b : Bool) → by-name (onto m) b c x ≡ on-value onto (by-name m b c x)
+      go true = refl
+      go false = draws (draw n c x)
+
+-- the bytes of joined maps
+joined-bytes : (a b : NameMap) → map-bytes (a ++ b) ≡ map-bytes a ++ map-bytes b
+unfolding map-bytes
+joined-bytes [] b = refl
+joined-bytes ((n, n′) ∷ a) b =
+    ap (λ (r : Bytes). name-field n ++ (name-field n′ ++ r)) (joined-bytes a b)
+    ∙ sym (append-assoc (name-field n) (name-field n′ ++ map-bytes a) (map-bytes b)
+    ∙ ap (λ (r : Bytes). name-field n ++ r) (append-assoc (name-field n′) (map-bytes a) (map-bytes b)))
+
+pub newer-map : {mem : Bytes} {len : ℕ} (a b : NameMap) → MapAt mem len (a ++ b) → MapAt (take (length mem - length (map-bytes b)) mem) (len - length (map-bytes b)) a
+newer-map {mem} {len} a b w =
+    let na = length (map-bytes a) in
+    let nb = length (map-bytes b) in
+    let e : drop (length mem - len) mem ≡ map-bytes a ++ map-bytes b = w .there ∙ joined-bytes a b in
+    let n : len ≡ na + nb = omega (arith, ap length e, length-drop (length mem - len) mem, length-append (map-bytes a) (map-bytes b), w .within) in
+    let l : length (take (length mem - nb) mem) ≡ length mem - nb = length-take-le (length mem - nb) mem (omega arith) in
+    let p : length (take (length mem - nb) mem) - (len - nb) ≡ length mem - len = omega (arith, w .within) in
+    let q : length mem - nb ≡ length mem - len + na = omega (arith, w .within) in
+    record {
+      within = omega (arith, w .within);
+      there = ap (λ (i : ℕ). drop i (take (length mem - nb) mem)) p ∙ ap (λ (i : ℕ). drop (length mem - len) (take i mem)) q ∙ sym (take-drop (length mem - len) na mem)
+          ∙ ap (take na) e ∙ take-append-seam (map-bytes a) (map-bytes b);
+    }
