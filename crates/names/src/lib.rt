@@ -16,6 +16,17 @@ pub const NAME_LIMIT: usize = 255;
 // The largest counter that a call takes.
 pub const MAX_COUNTER: u64 = 4294967295;
 
+// A place: the offset of a byte in the input, or a location.
+pub struct Place {
+    pub start: u64,
+}
+
+// A refusal: its number and its place. The number is 0 where nothing is refused.
+pub struct Refusal {
+    pub number: u32,
+    pub place: Place,
+}
+
 // What a call answers: its number (0 accepted, else the refusal's), a place, the counter to go on
 // from, the rounds of an order, and how many bytes it wrote at the front of the result buffer.
 pub struct Answer {
