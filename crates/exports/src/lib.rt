@@ -7,12 +7,12 @@ use records::Wanted;
 use records::input::open_input;
 ghost use mathlib.Core.Path.{_≡_};
 ghost use Prim.Native.Nat.{_*_};
-ghost use lib.ListN.{length};
+ghost use lib.ListN.{length, getD};
 ghost use Rattle.records.specs.Limits.{most-longest, work-factor};
 ghost use Rattle.records.specs.Opened.{open-input};
 ghost use Rattle.records.specs.Scan.{wanted-reader, opening-of};
 ghost use Rattle.ordering.specs.OrderCall.{order-call};
-ghost use Rattle.exports.specs.Linked.{wanted-of, number-of, place-of};
+ghost use Rattle.exports.specs.Linked.{wanted-of, refusal-of, answer-told};
 
 // The record that a kind asks for: 0 a CF, 1 an H record, else an assign.
 fn wanted(kind: u8) -> Wanted
@@ -28,8 +28,8 @@ fn wanted(kind: u8) -> Wanted
 // Reads an input: the refusal's number, or 0, and its place.
 #[no_mangle]
 pub extern "C" fn records_open(kind: u8, input: &[u8], f: usize, place: &mut u64) -> u32
-    ensures { λ r. ⌜ r ≡ number-of (opening-of (open-input (wanted-reader (wanted-of kind) .1) f (work-factor * most-longest) 0 (now (input .entry)))) ⌝ }
-    ensures { λ _. ⌜ now (place .exit) ≡ place-of (opening-of (open-input (wanted-reader (wanted-of kind) .1) f (work-factor * most-longest) 0 (now (input .entry)))) ⌝ }
+    ensures { λ r. ⌜ r ≡ refusal-of (opening-of (open-input (wanted-reader (wanted-of kind) .1) f (work-factor * most-longest) 0 (now (input .entry)))) .number ⌝ }
+    ensures { λ _. ⌜ now (place .exit) ≡ refusal-of (opening-of (open-input (wanted-reader (wanted-of kind) .1) f (work-factor * most-longest) 0 (now (input .entry)))) .place .start ⌝ }
 {
     let opening = open_input(wanted(kind), f, WORK_FACTOR * MOST_LONGEST, 0, input);
     match opening {
@@ -37,14 +37,15 @@ pub extern "C" fn records_open(kind: u8, input: &[u8], f: usize, place: &mut u64
             *place = 0;
             0
         }
-        Opening::Refused(n, p) => {
-            *place = p as u64;
-            n
+        Opening::Refused(refusal) => {
+            *place = refusal.place.start;
+            refusal.number
         }
     }
 }
 
-// The call Order: its number, and the rest of its answer but the counter, which stays.
+// The call Order: its number; place, rounds and length are told through `told`, and the counter
+// stays.
 #[no_mangle]
 pub extern "C" fn order(
     f: usize,
@@ -52,15 +53,11 @@ pub extern "C" fn order(
     counter: u64,
     input: &[u8],
     result: &mut [u8],
-    place: &mut u64,
-    rounds: &mut u64,
-    len: &mut u64,
+    told: &mut [u64; 3],
 ) -> u32
-    ensures { λ r. ⌜ (record { number = r; place = now (place .exit); counter = counter; rounds = now (rounds .exit); len = now (len .exit) }, now (result .exit)) ≡ order-call f (length (now (work .entry))) counter (now (input .entry)) (now (result .entry)) ⌝ }
+    ensures { λ r. ⌜ (answer-told r (getD (now (told .exit)) 0 0) counter (getD (now (told .exit)) 1 0) (getD (now (told .exit)) 2 0), now (result .exit)) ≡ order-call f (length (now (work .entry))) counter (now (input .entry)) (now (result .entry)) ⌝ }
 {
     let a = order_call(f, work, counter, input, result);
-    *place = a.place;
-    *rounds = a.rounds;
-    *len = a.len as u64;
-    a.number
+    *told = [a.refusal.place.start, a.rounds, a.len as u64];
+    a.refusal.number
 }

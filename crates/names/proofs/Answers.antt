@@ -5,24 +5,25 @@ use native.Mathlib.Omega.{arith}
 use Prim.Native.Nat.{ℕ, _+_, _≤_, _<_}
 use borrow.Author.Tests.{le-leb, lt-leb}
 use lib.ListN.{length, drop, length-append}
-use Rattle.names.specs.Answers.{delivered, max-counter, name-call, refusal, written}
+use Rattle.names.specs.Answers.{accepted-answer, delivered, max-counter, name-call, refused-answer, written}
 use Rattle.names.specs.Names.{Bytes, gensym, name-limit}
+use Rattle.names.specs.Refusals.{placeless}
 use Rattle.names.specs.declared.Answer.{Answer}
 use Rattle.names.proofs.Order.{lt-or-le}
 
 -- a result that is delivered
 module _ (counter : ℕ) (buffer bs : Bytes) (c : ℕ) where
-  pub delivered-short : length buffer < length bs → delivered counter buffer bs c ≡ refusal counter buffer 8 0
+  pub delivered-short : length buffer < length bs → delivered counter buffer bs c ≡ refused-answer counter buffer (placeless 8)
   unfolding delivered
   delivered-short lt = rw (lt-leb (length bs) (length buffer) lt, delivered)
 
   pub delivered-fits : length bs ≤ length buffer
-      → delivered counter buffer bs c ≡ (record { number = 0; place = 0; counter = c; rounds = 0; len = length bs }, written bs buffer)
+      → delivered counter buffer bs c ≡ (accepted-answer c 0 (length bs), written bs buffer)
   unfolding delivered
   delivered-fits le = rw (le-leb (length bs) (length buffer) le, delivered)
 
   delivered-len : delivered counter buffer bs c .0 .len ≤ length (delivered counter buffer bs c .1)
-  unfolding refusal written
+  unfolding refused-answer written
   delivered-len =
       ⊎-elim
       (λ lt. rw (delivered-short lt) (omega arith))
@@ -31,11 +32,11 @@ module _ (counter : ℕ) (buffer bs : Bytes) (c : ℕ) where
 
 -- the call Name
 module _ (n : Bytes) (c : ℕ) (buffer : Bytes) where
-  pub name-call-counter : max-counter < c → name-call n c buffer ≡ refusal c buffer 1 0
+  pub name-call-counter : max-counter < c → name-call n c buffer ≡ refused-answer c buffer (placeless 1)
   unfolding name-call
   name-call-counter lt = rw (lt-leb c max-counter lt, name-call)
 
-  pub name-call-long : c ≤ max-counter → name-limit < length (gensym n c) → name-call n c buffer ≡ refusal c buffer 6 0
+  pub name-call-long : c ≤ max-counter → name-limit < length (gensym n c) → name-call n c buffer ≡ refused-answer c buffer (placeless 6)
   unfolding name-call
   name-call-long le lt = rw (le-leb c max-counter le, lt-leb (length (gensym n c)) name-limit lt, name-call)
 
@@ -44,7 +45,7 @@ module _ (n : Bytes) (c : ℕ) (buffer : Bytes) where
   name-call-made le made = rw (le-leb c max-counter le, le-leb (length (gensym n c)) name-limit made, name-call)
 
   name-call-len : name-call n c buffer .0 .len ≤ length (name-call n c buffer .1)
-  unfolding refusal
+  unfolding refused-answer
   name-call-len =
       ⊎-elim
       (λ lt. rw (name-call-counter lt) (omega arith))

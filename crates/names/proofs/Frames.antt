@@ -1,4 +1,5 @@
 -- Which bytes a change leaves alone, and what stands where bytes were written. Assumes nothing.
+use mathlib.Core.Logic.{⊎-elim, inl}
 use mathlib.Core.Path.{_≡_, refl, sym, ap, _∙_}
 use mathlib.Core.List.{[], _∷_}
 use native.Mathlib.Nat.{add-zero}
@@ -8,7 +9,7 @@ use Prim.Native.Nat.{ℕ, _+_, _-_, _≤_, _<_}
 use lib.ListN.{length, take, drop, getD, set, length-drop, length-set, take-append-drop}
 use lib.Seq.{drop-drop, drop-set-add, drop-set-lt, getD-drop, getD-take, take-add, take-set-le, take-suc, take-suc-set, take-take}
 use Rattle.names.specs.Names.{Bytes}
-use Rattle.names.specs.Segments.{At, SameOutside, Filled}
+use Rattle.names.specs.Segments.{At, SameOutside, Filled, Movable}
 use Rattle.names.proofs.Places.{at-into-drop, at-place, take-drop, take-drop-take}
 
 -- no change
@@ -79,10 +80,18 @@ filled-more {xs} {ys} {q} {vs} {i} v f lt lv e =
       got = rw (drop-set-add, add-one) (take-suc-set (drop q ys) i v (omega (arith, length-drop q ys)) ∙ cc (f .got, e, take-suc vs i 0 lv));
     }
 
--- a byte of the run at p, as it was, copied
-pub copied-more : {xs ys : Bytes} {q i : ℕ} (p : ℕ) → Filled xs ys q (drop p xs) i → q + i < length xs → p + i < length xs → getD ys (p + i) 0 ≡ getD xs (p + i) 0
+-- bytes that go to a later place which they do not reach
+pub movable-up : {xs : Bytes} {p q n : ℕ} → p + n ≤ q → q + n ≤ length xs → Movable xs p q n
+movable-up h l = record { source = omega arith; target = l; safe = inl h }
+
+-- one byte more of the run at p is copied: it stands there still as it was
+pub copied-more : {xs ys : Bytes} {p q n i : ℕ} → Movable xs p q n → Filled xs ys q (drop p xs) i → i < n
     → Filled xs (set ys (q + i) (getD ys (p + i) 0)) q (drop p xs) (i + 1)
-copied-more {xs} {i = i} p f lq lp e = filled-more _ f (omega (arith, f .frame .size)) (omega (arith, length-drop p xs)) (e ∙ sym (getD-drop p xs i 0))
+copied-more {xs} {ys} {p} {q} {n} {i} m f lt =
+    filled-more _ f (omega (arith, f .frame .size)) (omega (arith, length-drop p xs)) (kept ∙ sym (getD-drop p xs i 0))
+  where
+    kept : getD ys (p + i) 0 ≡ getD xs (p + i) 0
+    kept = ⊎-elim (λ h. get-below (f .frame) (p + i) (omega arith)) (λ h. get-above (f .frame) (p + i) (omega arith)) (m .safe)
 
 -- one byte written
 pub filled-set : (xs : Bytes) (i v : ℕ) → i < length xs → Filled xs (set xs i v) i (v ∷ []) 1

@@ -1,12 +1,12 @@
 -- A map in memory, searched entry by entry. Assumes nothing.
 use mathlib.Core.Path.{_≡_, refl, sym, ap, _∙_}
-use mathlib.Core.Bool.{true, false}
+use mathlib.Core.Bool.{Bool, true, false}
 use mathlib.Core.List.{[], _∷_, _++_}
 use native.Mathlib.Omega.{arith}
 use Prim.Native.Nat.{ℕ, _+_, _≤_, _<_}
 use lib.ListN.{length, take, drop, length-drop}
-use Rattle.names.specs.Maps.{NameMap, lookup, map-bytes, renamed}
-use Rattle.names.specs.Names.{Bytes, name-field, name-width, number-of, same}
+use Rattle.names.specs.Maps.{NameMap, lookup, map-bytes, renamed, Limited}
+use Rattle.names.specs.Names.{Bytes, name-field, name-limit, name-width, number-of, same}
 use Rattle.names.proofs.Fields.{name-at}
 
 -- what a map makes of a name, by its first entry
@@ -18,6 +18,16 @@ module _ (x : Bytes) (e : Bytes × Bytes) (m : NameMap) where
   renamed-miss : same x (e .0) ≡ false → renamed (e ∷ m) x ≡ renamed m x
   unfolding lookup renamed
   renamed-miss t = rw (t, lookup, renamed)
+
+-- and it stays within its limit
+pub renamed-limited : (m : NameMap) → Limited m → (x : Bytes) → length x ≤ name-limit → length (renamed m x) ≤ name-limit
+unfolding lookup renamed Limited
+renamed-limited [] l x h = h
+renamed-limited (e ∷ m) l x h = go (same x (e .0)) refl (renamed-limited m (l .2) x h)
+  where
+    go : (b : Bool) → same x (e .0) ≡ b → length (renamed m x) ≤ name-limit → length (renamed (e ∷ m) x) ≤ name-limit
+    go true t r = rw (renamed-hit x e m t) (l .1)
+    go false t r = rw (renamed-miss x e m t) r
 
 -- a search of x in the bytes s of m has come to `at`: the entries from there on say what x becomes
 pub record Searched (s : Bytes) (at : ℕ) (m : NameMap) (x : Bytes) : Type 0 where

@@ -7,6 +7,7 @@ use lib.Dec.{leb}
 use lib.ListN.{length, drop}
 use Rattle.names.specs.declared.Answer.{Answer}
 use Rattle.names.specs.Names.{Bytes, name-limit, gensym}
+use Rattle.names.specs.Refusals.{Refusal, placeless, no-refusal}
 
 -- the answer, and the result buffer as the call leaves it
 abbrev pub Result : Type 0
@@ -16,18 +17,22 @@ Result = Answer × Bytes
 unfoldable pub written : Bytes → Bytes → Bytes
 written bs buffer = bs ++ drop (length bs) buffer
 
+-- the answer of a call that refuses nothing: the new counter, the rounds, the bytes written
+abbrev pub accepted-answer : ℕ → ℕ → ℕ → Answer
+accepted-answer c rounds len = record { refusal = no-refusal; counter = c; rounds = rounds; len = len }
+
 -- a call's counter and result buffer as given
 module _ (counter : ℕ) (buffer : Bytes) where
-  -- a refusal's number and place; all else as found
-  unfoldable pub refusal : ℕ → ℕ → Result
-  refusal n p = (record { number = n; place = p; counter = counter; rounds = 0; len = 0 }, buffer)
+  -- a refusal; all else as found
+  unfoldable pub refused-answer : Refusal → Result
+  refused-answer r = (record { refusal = r; counter = counter; rounds = 0; len = 0 }, buffer)
 
   -- a result of a new counter c, if it fits, or 8
   unfoldable pub delivered : Bytes → ℕ → Result
   delivered bs c =
       elim (leb (length bs) (length buffer)) [
-        | true ↦ (record { number = 0; place = 0; counter = c; rounds = 0; len = length bs }, written bs buffer)
-        | false ↦ refusal 8 0
+        | true ↦ (accepted-answer c 0 (length bs), written bs buffer)
+        | false ↦ refused-answer (placeless 8)
       ]
 
 -- the largest counter that a call takes
@@ -38,14 +43,14 @@ max-counter = 4294967295
 unfoldable pub name-call : Bytes → ℕ → Bytes → Result
 name-call n c buffer =
     elim (leb c max-counter) [
-      | false ↦ refusal c buffer 1 0
+      | false ↦ refused-answer c buffer (placeless 1)
       | true ↦ elim (leb (length (gensym n c)) name-limit) [
-        | false ↦ refusal c buffer 6 0
+        | false ↦ refused-answer c buffer (placeless 6)
         | true ↦ delivered c buffer (gensym n c) (c + 1)
       ]
     ]
 
 -- unfolds with every definition of this file
 unfoldable pub computing-answers : Unit {0}
-unfolding written refusal delivered name-call
+unfolding written refused-answer delivered name-call
 computing-answers = tt

@@ -1,5 +1,6 @@
 -- Segments of a list of bytes: what stands at a place, and which part of a list a change leaves alone.
 -- Assumes nothing.
+use mathlib.Core.Logic.{_⊎_}
 use mathlib.Core.Path.{_≡_}
 use Prim.Native.Nat.{ℕ, _+_, _≤_}
 use lib.ListN.{length, take, drop}
@@ -20,3 +21,9 @@ pub record SameOutside (xs ys : Bytes) (lo hi : ℕ) : Type 0 where
 pub record Filled (xs ys : Bytes) (q : ℕ) (vs : Bytes) (n : ℕ) : Type 0 where
   pub frame : SameOutside xs ys q (q + n)
   pub got : take n (drop q ys) ≡ take n vs
+
+-- n bytes can go from one place to another, the first byte first: both parts lie within xs, and they do not overlap or the bytes move down
+pub record Movable (xs : Bytes) (from to n : ℕ) : Type 0 where
+  pub source : from + n ≤ length xs
+  pub target : to + n ≤ length xs
+  pub safe : (from + n ≤ to) ⊎ (to ≤ from)

@@ -4,7 +4,7 @@ ghost use mathlib.Core.Path.{_≡_};
 ghost use Prim.Native.Nat.{_+_, _^_, _≤_, _<_};
 ghost use lib.ListN.{length, take, drop};
 ghost use Rattle.names.specs.Names.{same, number-field, number-of, name-limit, name-field};
-ghost use Rattle.names.specs.Segments.{Filled};
+ghost use Rattle.names.specs.Segments.{Filled, Movable};
 
 // Whether two names are equal.
 pub fn same(a: &[u8], b: &[u8]) -> bool
@@ -64,27 +64,15 @@ pub fn number(s: &[u8], at: usize, width: usize) -> usize
     n
 }
 
-// Copies n bytes to a later place that does not overlap them.
+// Copies n bytes to another place, the first byte first.
 pub fn copy(mem: &mut [u8], from: usize, to: usize, n: usize)
-    requires { ⌜ (from + n ≤ to) × (to + n ≤ length (now mem)) ⌝ }
+    requires { ⌜ Movable (now mem) from to n ⌝ }
     ensures { λ _. ⌜ Filled (now (mem .entry)) (now (mem .exit)) to (drop from (now (mem .entry))) n ⌝ }
 {
     let mut i = 0;
     while i < n {
         mem[to + i] = mem[from + i];
         i += 1;
-    }
-}
-
-// Moves n bytes down; the two places may overlap, so the first byte goes first.
-pub fn slide(mem: &mut [u8], from: usize, to: usize, n: usize)
-    requires { ⌜ (to ≤ from) × (from + n ≤ length (now mem)) ⌝ }
-    ensures { λ _. ⌜ Filled (now (mem .entry)) (now (mem .exit)) to (drop from (now (mem .entry))) n ⌝ }
-{
-    let mut done = 0;
-    while done < n {
-        mem[to + done] = mem[from + done];
-        done += 1;
     }
 }
 

@@ -1,11 +1,12 @@
 // Names: comparing, making and looking them up, and the call Name.
 //
 // `bytes` has what works on plain bytes, `make` the names that `gensym` makes, `map` what a map
-// makes of a name, and `call` the call Name.
+// makes of a name, `refusals` places and refusals, and `call` what a call answers and the call Name.
 pub mod bytes;
 pub mod call;
 pub mod make;
 pub mod map;
+pub mod refusals;
 
 // The bytes of the length that stands before a name.
 pub const NAME_WIDTH: usize = 1;
@@ -27,11 +28,10 @@ pub struct Refusal {
     pub place: Place,
 }
 
-// What a call answers: its number (0 accepted, else the refusal's), a place, the counter to go on
-// from, the rounds of an order, and how many bytes it wrote at the front of the result buffer.
+// What a call answers: its refusal, the counter to go on from, the rounds of an order, and how many
+// bytes it wrote at the front of the result buffer.
 pub struct Answer {
-    pub number: u32,
-    pub place: u64,
+    pub refusal: Refusal,
     pub counter: u64,
     pub rounds: u64,
     pub len: usize,

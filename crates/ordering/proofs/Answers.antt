@@ -7,8 +7,10 @@ use Prim.Native.Nat.{ℕ}
 use native.Mathlib.Omega.{arith}
 use lib.Dec.{leb}
 use lib.ListN.{length}
-use Rattle.names.specs.Answers.{Result, refusal}
+use Rattle.names.specs.Answers.{Result, refused-answer}
 use Rattle.names.specs.Names.{Bytes}
+use Rattle.names.specs.Refusals.{place-at, placeless}
+use Rattle.names.specs.declared.Refusal.{Refusal}
 use Rattle.records.specs.Opened.{Opened, opened, closed, open-input}
 use Rattle.records.specs.Read.{assign-of}
 use Rattle.records.specs.Records.{loc-number, Body, Binding}
@@ -20,15 +22,15 @@ use Rattle.ordering.proofs.Rounds.{rounds-few, rounds-some}
 use Rattle.ordering.proofs.Toposort.{sound-length, stuck, stuck-once}
 
 module _ (c : ℕ) (buffer : Bytes) where
-  refusal-rounds : (n p : ℕ) → Rounds (refusal c buffer n p)
-  unfolding refusal
-  refusal-rounds n p = record { few = omega arith; some = λ e h. h; none = λ _. refl }
+  refused-rounds : (r : Refusal) → Rounds (refused-answer c buffer r)
+  unfolding refused-answer
+  refused-rounds r = record { few = omega arith; some = λ e h. h; none = λ _. refl }
 
   order-rounds : (a : Body) → Rounds (order-of c buffer a)
   unfolding order-of stuck-answer order-answer toposort-assign-bindings
   order-rounds a = go (leb (length (bindings-of a)) (length buffer))
     where
-      go₂ : (o : Outcome) → toposort-assign-bindings (bindings-of a) ≡ o → Rounds (elim o as (λ _. Result) [ deadlock is ↦ stuck-answer c (loc-number (let-loc a)) buffer is | ordered is ↦ order-answer c buffer (rounds (items (bindings-of a))) is ])
+      go₂ : (o : Outcome) → toposort-assign-bindings (bindings-of a) ≡ o → Rounds (elim o as (λ _. Result) [ deadlock is ↦ stuck-answer c (place-at (loc-number (let-loc a))) buffer is | ordered is ↦ order-answer c buffer (rounds (items (bindings-of a))) is ])
       go₂ (deadlock is) e = record { few = omega arith; some = λ q h. absurd (omega arith); none = λ _. refl }
       go₂ (ordered is) e =
           let l = sound-length (items (bindings-of a)) is e in
@@ -39,38 +41,38 @@ module _ (c : ℕ) (buffer : Bytes) where
           }
 
       go : (b : Bool) → Rounds (elim b as (λ _. Result) [
-        | false ↦ refusal c buffer 8 0
-        | true ↦ elim (toposort-assign-bindings (bindings-of a)) [ deadlock is ↦ stuck-answer c (loc-number (let-loc a)) buffer is | ordered is ↦ order-answer c buffer (rounds (items (bindings-of a))) is ]
+        | false ↦ refused-answer c buffer (placeless 8)
+        | true ↦ elim (toposort-assign-bindings (bindings-of a)) [ deadlock is ↦ stuck-answer c (place-at (loc-number (let-loc a))) buffer is | ordered is ↦ order-answer c buffer (rounds (items (bindings-of a))) is ]
       ])
       go true = go₂ (toposort-assign-bindings (bindings-of a)) refl
-      go false = refusal-rounds 8 0
+      go false = refused-rounds (placeless 8)
 
 pub order-call-rounds : (F work c : ℕ) (input buffer : Bytes) → Rounds (order-call F work c input buffer)
 unfolding order-call
 order-call-rounds F work c input buffer = go (open-input assign-of F work c input)
   where
-    go : (o : Opened Body) → Rounds (elim o as (λ _. Result) [ closed n p ↦ refusal c buffer n p | opened a ↦ order-of c buffer a ])
-    go (closed n p) = refusal-rounds c buffer n p
+    go : (o : Opened Body) → Rounds (elim o as (λ _. Result) [ closed r ↦ refused-answer c buffer r | opened a ↦ order-of c buffer a ])
+    go (closed r) = refused-rounds c buffer r
     go (opened a) = order-rounds c buffer a
 
 -- the counter stays
 pub order-call-counter : (F work c : ℕ) (input buffer : Bytes) → order-call F work c input buffer .0 .counter ≡ c
-unfolding order-call order-of refusal stuck-answer order-answer
+unfolding order-call order-of refused-answer stuck-answer order-answer
 order-call-counter F work c input buffer = go (open-input assign-of F work c input)
   where
-    go₃ : (a : Body) (o : Outcome) → (elim o as (λ _. Result) [ deadlock is ↦ stuck-answer c (loc-number (let-loc a)) buffer is | ordered is ↦ order-answer c buffer (rounds (items (bindings-of a))) is ]) .0 .counter ≡ c
+    go₃ : (a : Body) (o : Outcome) → (elim o as (λ _. Result) [ deadlock is ↦ stuck-answer c (place-at (loc-number (let-loc a))) buffer is | ordered is ↦ order-answer c buffer (rounds (items (bindings-of a))) is ]) .0 .counter ≡ c
     go₃ a (deadlock is) = refl
     go₃ a (ordered is) = refl
 
     go₂ : (a : Body) (b : Bool) → (elim b as (λ _. Result) [
-      | false ↦ refusal c buffer 8 0
-      | true ↦ elim (toposort-assign-bindings (bindings-of a)) [ deadlock is ↦ stuck-answer c (loc-number (let-loc a)) buffer is | ordered is ↦ order-answer c buffer (rounds (items (bindings-of a))) is ]
+      | false ↦ refused-answer c buffer (placeless 8)
+      | true ↦ elim (toposort-assign-bindings (bindings-of a)) [ deadlock is ↦ stuck-answer c (place-at (loc-number (let-loc a))) buffer is | ordered is ↦ order-answer c buffer (rounds (items (bindings-of a))) is ]
     ]) .0 .counter ≡ c
     go₂ a true = go₃ a (toposort-assign-bindings (bindings-of a))
     go₂ a false = refl
 
-    go : (o : Opened Body) → (elim o as (λ _. Result) [ closed n p ↦ refusal c buffer n p | opened a ↦ order-of c buffer a ]) .0 .counter ≡ c
-    go (closed n p) = refl
+    go : (o : Opened Body) → (elim o as (λ _. Result) [ closed r ↦ refused-answer c buffer r | opened a ↦ order-of c buffer a ]) .0 .counter ≡ c
+    go (closed r) = refl
     go (opened a) = go₂ a (leb (length (bindings-of a)) (length buffer))
 
 -- what is written at a deadlock: the stuck bindings, each once

@@ -12,24 +12,22 @@ use Rattle.names.proofs.Parts.{part}
 use Rattle.names.proofs.Places.{at-is, at-left}
 use Rattle.records.specs.Depth.{depth, levels, tail-depth, binding-depth}
 use Rattle.records.specs.Read.{kind-of}
-use Rattle.records.specs.Records.{loc-width, byte, Sexp, sexp-bytes, Pattern, Name, Complex, pattern-field, Body, BL, BQ, BV, BC, BM, BF, body-bytes, Bodies, Tail, no-tail, tail, tail-bytes, Binding, BB, binding-bytes}
+use Rattle.records.specs.Records.{mark-width, loc-width, byte, Sexp, sexp-bytes, Pattern, Name, Complex, pattern-field, Body, BL, BQ, BV, BC, BM, BF, body-bytes, Bodies, Tail, no-tail, tail, tail-bytes, Binding, BB, binding-bytes}
 use Rattle.records.specs.Scan.{mark-index, body-marks}
 use Rattle.records.specs.Sexps.{truthy}
 use Rattle.records.specs.Valid.{SexpFields, ValidPattern, BodyFields, TailFields, BindingFields, lambda-depth, tail-lambda-depth, binding-lambda-depth, ValidBody}
 use Rattle.records.specs.declared.Family.the-variants.{Body as a-body, Binding as a-binding}
-use Rattle.records.specs.Parts.{Past, fixed-part, family-part, pattern-part, list-part, Skips}
-use Rattle.records.specs.Views.{mark-width, PastHead, Closes, SeesName, SeesTagged, PatternAt, TailAt, SeesCall, SeesLet, SeesLambda}
+use Rattle.records.specs.Parts.{Past, fields-part, fixed-part, family-part, pattern-part, list-part, Skips}
+use Rattle.records.specs.Views.{PastHead, Closes, SeesName, SeesTagged, PatternAt, TailAt, SeesCall, SeesLet, SeesLambda}
 use Rattle.records.specs.declared.NameView.{NameView}
 use Rattle.records.specs.declared.TaggedView.{TaggedView}
 use Rattle.records.specs.declared.LetView.{LetView}
 use Rattle.records.specs.declared.CallView.{CallView}
 use Rattle.records.specs.declared.LambdaView.{LambdaView}
 use Rattle.records.proofs.AnySexp.{mark-of}
-use Rattle.records.proofs.Places.{at-split}
 use Rattle.records.proofs.Views.{first-of, close-mark, close-head, close-on, close-step}
 use Rattle.ordering.specs.declared.Listed.{Listed}
 use Rattle.ordering.specs.Listing.{Names, Lists, Reaches, body-index, kind-part, member-part, all-words}
-use Rattle.ordering.specs.Provisions.{fields-part}
 use Rattle.ordering.specs.Words.{make-provides-set, pattern-provides, let-word, captured, words, bodies-words, tail-words, binding-words}
 use Rattle.ordering.proofs.NeedLaws.{names-none, names-then}
 use Rattle.ordering.proofs.Several.{several-bodies, several-bindings, several-told}
@@ -77,7 +75,7 @@ module _ {a : Bytes} {ps : List ℕ} {s : Bytes} {h p : ℕ} {l₀ l₁ l₂ : L
     where
       go : (t : Binding) → family-part a-binding .2 t → At s 0 (binding-bytes t) → (r .end ≡ 0 + length (binding-bytes t)) × Names (binding-words t) a ps l₀ l₂ n (r .count)
       go (BB l nl t b) w k =
-          let c = close-step y nl (w .0 .1) (close-head "BB" x l _ refl (w .0 .0) k) in
+          let c = close-step y nl (w .0 .1 .width) (close-head "BB" x l _ refl (w .0 .0) k) in
           let i = f .tells (omega arith) t (w .0 .2) (first-of (c .there)) in
           let d = close-on (q .end) (i .0) c in
           let j = g .tells (d .moved) b (w .0 .3, w .1, w .2) (first-of (d .there)) in
@@ -232,7 +230,7 @@ module _ {s : Bytes} where
     pub skip-lists : {l : List ℕ} {n r : ℕ} → (((((Unit {0} × (k ≡ 0 → ⊥)) × (k ≡ 1 → ⊥)) × (k ≡ 2 → ⊥)) × (k ≡ 3 → ⊥)) × (k ≡ 5 → ⊥)) → Skips (family-part a-body) s r → n ≤ length l
         → Lists (family-part a-body) words a ps s 0 l l n (record { count = n; end = r })
     unfolding words
-    skip-lists {l} {n} {r} q f h = lists-of (omega arith) (f .within) h (λ t v z. (f .skips t _ v (at-split z) ∙ sym (zero-add _), go t (e ∙ index-of t z)))
+    skip-lists {l} {n} {r} q f h = lists-of (omega arith) (f .within) h (λ t v z. (f .skips t v z ∙ sym (zero-add _), go t (e ∙ index-of t z)))
       where
         go : (t : Body) → k ≡ body-index t → Names (words t) a ps l l n n
         go (BL k y w h bs b) z = absurd (q .0 .0 .0 .0 .1 z)

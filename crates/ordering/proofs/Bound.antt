@@ -48,11 +48,11 @@ module _ {s : Bytes} {at h pattern : ℕ} (le : at ≤ length s) (x : PastHead (
       let whole : At (take (length s - at) (drop at s)) 0 (binding-bytes (BB l nl p b)) = at-part at (length s - at) a (omega arith) (omega (arith, a .fits)) in
       let k = opened "BB" _ whole in
       let w = stands-from at (length s - at) le (x .past (ascii "BB") l _ refl (v .0 .0) k) in (
-        step y nl (v .0 .1) w,
+        step y nl (v .0 .1 .width) w,
         omega (
           arith,
           x .ends (ascii "BB") l _ refl (v .0 .0) k,
-          y .past nl (v .0 .1) (first-of w),
+          y .past nl (v .0 .1 .width) (first-of w),
           length-append (ascii "BB") (flatten (l ∷ nl ∷ pattern-field p ∷ body-bytes b ∷ [])),
           length-append l (nl ++ (pattern-field p ++ (body-bytes b ++ []))),
           length-append nl (pattern-field p ++ (body-bytes b ++ [])),

@@ -6,8 +6,11 @@ use native.Mathlib.Omega.{arith}
 use borrow.Author.Tests.{le-leb, lt-leb, le-ltb, lt-ltb}
 use lib.ListN.{length, take, drop}
 use lib.Seq.{length-take-le}
-use Rattle.names.specs.Answers.{Result, refusal}
+use Rattle.names.specs.Answers.{Result, refused-answer, accepted-answer}
 use Rattle.names.specs.Names.{Bytes, number-of}
+use Rattle.names.specs.Refusals.{place-at, refusing, placeless}
+use Rattle.names.specs.declared.Place.{Place}
+use Rattle.names.specs.declared.Refusal.{Refusal}
 use Rattle.names.specs.Segments.{At, Filled}
 use Rattle.names.proofs.Places.{at-is, at-whole, take-drop}
 use Rattle.names.proofs.Segments.{filled-written}
@@ -32,18 +35,18 @@ use Rattle.records.proofs.Lists.{list-count}
 
 module _ {before after : Bytes} {c : ℕ} where
   -- the indices in order are written
-  pub order-written : {turns count : ℕ} (is : Bytes) → length is ≡ count → Filled before after 0 is (length is) → (record { number = 0; place = 0; counter = c; rounds = turns; len = count }, after) ≡ order-answer c before turns is
+  pub order-written : {turns count : ℕ} (is : Bytes) → length is ≡ count → Filled before after 0 is (length is) → (accepted-answer c turns count, after) ≡ order-answer c before turns is
   unfolding order-answer
   order-written is e f = rw (← e, filled-written f) refl
 
   -- the stuck ones are
-  pub stuck-written : {place count : ℕ} (is : Bytes) → length is ≡ count → Filled before after 0 is (length is) → (record { number = 5; place = place; counter = c; rounds = 0; len = count }, after) ≡ stuck-answer c place before is
+  pub stuck-written : {place : Place} {count : ℕ} (is : Bytes) → length is ≡ count → Filled before after 0 is (length is) → (record { refusal = refusing 5 place; counter = c; rounds = 0; len = count }, after) ≡ stuck-answer c place before is
   unfolding stuck-answer
   stuck-written is e f = rw (← e, filled-written f) refl
 
 module _ (c : ℕ) (buffer : Bytes) (k : Kind) (l : Loc) (w h : Bytes) (bs : Bindings) (b : Body) where
   -- the buffer is too short
-  pub order-short : length buffer < length (list-of bs) → order-of c buffer (BL k l w h bs b) ≡ refusal c buffer 8 0
+  pub order-short : length buffer < length (list-of bs) → order-of c buffer (BL k l w h bs b) ≡ refused-answer c buffer (placeless 8)
   unfolding order-of bindings-of
   order-short lt = rw (lt-leb (length (list-of bs)) (length buffer) lt, order-of)
 
@@ -53,7 +56,7 @@ module _ (c : ℕ) (buffer : Bytes) (k : Kind) (l : Loc) (w h : Bytes) (bs : Bin
   order-found is le e = rw (le-leb (length (list-of bs)) (length buffer) le, e, order-of)
 
   -- there is none
-  pub order-stuck : (is : List ℕ) → length (list-of bs) ≤ length buffer → toposort-assign-bindings (list-of bs) ≡ deadlock is → order-of c buffer (BL k l w h bs b) ≡ stuck-answer c (loc-number l) buffer is
+  pub order-stuck : (is : List ℕ) → length (list-of bs) ≤ length buffer → toposort-assign-bindings (list-of bs) ≡ deadlock is → order-of c buffer (BL k l w h bs b) ≡ stuck-answer c (place-at (loc-number l)) buffer is
   unfolding order-of bindings-of let-loc
   order-stuck is le e = rw (le-leb (length (list-of bs)) (length buffer) le, e, order-of)
 
@@ -83,34 +86,31 @@ module _ {s : Bytes} {v : LetView} {k : Kind} {l : Loc} {w h : Bytes} {bs : Bind
 
   pub loc-fits : v .loc + loc-width ≤ length s
   unfolding BodyFields
-  loc-fits = omega (arith, loc-at .fits, t .valid .0 .0)
+  loc-fits = omega (arith, loc-at .fits, t .valid .0 .0 .width)
 
   pub loc-is : number-of (take loc-width (drop (v .loc) s)) ≡ loc-number l
   unfolding BodyFields loc-number
-  loc-is = ap number-of (at-is (v .loc) loc-width refl (sym (t .valid .0 .0)) loc-at)
+  loc-is = ap number-of (at-is (v .loc) loc-width refl (sym (t .valid .0 .0 .width)) loc-at)
 
   -- the answers are those of the definition
   module _ (c : ℕ) (buffer : Bytes) {o : Order} {a : Result} (g : Ordered (list-of bs) o) (fits : v .count ≤ length buffer) where
-    pub answer-stuck : {place : ℕ} → o .placed < o .count → place ≡ number-of (take loc-width (drop (v .loc) s)) → a ≡ stuck-answer c place buffer (take (o .count - o .placed) (drop (o .placed) (o .row)))
+    pub answer-stuck : {place : Place} → o .placed < o .count → place ≡ place-at (number-of (take loc-width (drop (v .loc) s))) → a ≡ stuck-answer c place buffer (take (o .count - o .placed) (drop (o .placed) (o .row)))
         → a ≡ order-of c buffer (BL k l w h bs b)
     answer-stuck lt p e =
-        e ∙ ap (λ (n : ℕ). stuck-answer c n buffer (take (o .count - o .placed) (drop (o .placed) (o .row)))) (p ∙ loc-is) ∙ sym (order-stuck c buffer k l w h bs b _ (omega (arith, let-count)) (stuck-is g lt))
+        e ∙ ap (λ (q : Place). stuck-answer c q buffer (take (o .count - o .placed) (drop (o .placed) (o .row)))) (p ∙ ap place-at loc-is) ∙ sym (order-stuck c buffer k l w h bs b _ (omega (arith, let-count)) (stuck-is g lt))
 
     pub answer-found : o .count ≤ o .placed → a ≡ order-answer c buffer (o .rounds) (take (o .count) (o .row)) → a ≡ order-of c buffer (BL k l w h bs b)
     answer-found le e =
         e ∙ ap (λ (n : ℕ). order-answer c buffer n (take (o .count) (o .row))) (g .turns) ∙ sym (order-found c buffer k l w h bs b _ (omega (arith, let-count)) (found-is g le))
 
 -- an input that is refused before any work
-pub call-refused : (F work c : ℕ) (input buffer : Bytes) (n p : ℕ) → Refused n p ≡ opening-of (open-input assign-of F work c input) → order-call F work c input buffer ≡ refusal c buffer n p
+pub call-refused : (F work c : ℕ) (input buffer : Bytes) (r : Refusal) → Refused r ≡ opening-of (open-input assign-of F work c input) → order-call F work c input buffer ≡ refused-answer c buffer r
 unfolding order-call
-call-refused F work c input buffer n p e = go (open-input assign-of F work c input) e
+call-refused F work c input buffer r e = go (open-input assign-of F work c input) e
   where
-    go : (o : Opened Body) → Refused n p ≡ opening-of o → elim o as (λ _. Result) [ closed n p ↦ refusal c buffer n p | opened a ↦ order-of c buffer a ] ≡ refusal c buffer n p
+    go : (o : Opened Body) → Refused r ≡ opening-of o → elim o as (λ _. Result) [ closed q ↦ refused-answer c buffer q | opened a ↦ order-of c buffer a ] ≡ refused-answer c buffer r
     go (opened a) q = cc
-    go (closed m k) q =
-        let num : m ≡ n = cc in
-        let pl : k ≡ p = cc in
-        rw (num, pl) refl
+    go (closed p) q = cc
 
 -- an input that is read: an assign stands in it
 pub record Taken (F work c : ℕ) (input buffer : Bytes) (k : Kind) (l : Loc) (w h : Bytes) (bs : Bindings) (b : Body) : Type 0 where
@@ -137,4 +137,4 @@ call-taken F work c input buffer ok e = go (open-input assign-of F work c input)
         let u = opened-valid assign-format F work c input a ok q in
         let st : OpenedFrom assign-of F c input a = rw q at (start assign-of F work c input) in
         go₂ a q (u .0, u .2) (omega (arith, st .size, st .longest))
-    go (closed m k) q z = let no : _≡_ {A = ℕ} 0 1 = cc in absurd (omega (arith, no))
+    go (closed r) q z = let no : _≡_ {A = ℕ} 0 1 = cc in absurd (omega (arith, no))

@@ -9,37 +9,31 @@ use lib.Seq.{take-all}
 use Rattle.names.specs.Names.{Bytes}
 use Rattle.names.specs.Segments.{At}
 use Rattle.names.proofs.Places.{at-get, at-place, at-right, at-into-drop, at-from-drop}
-use Rattle.records.specs.Records.{Sexp, SN, SC, SI, SQ, SA, sexp-bytes, Pattern, Name, Complex, pattern-field}
+use Rattle.records.specs.Records.{Sexp, sexp-bytes, Pattern, Name, Complex, pattern-field}
 use Rattle.records.specs.Valid.{SexpFields, ValidPattern}
-use Rattle.records.specs.Parts.{pattern-part}
-use Rattle.records.specs.Views.{LeafAt, SexpAt, SeesSexp, SeesName}
+use Rattle.records.specs.Parts.{fields-part, pattern-part}
+use Rattle.records.specs.Views.{NameAt, SexpAt, nil-at, pair-at, integer-at, text-at, atom-at, BytesIn, SeesSexp, SeesName}
 use Rattle.records.specs.declared.NameView.{NameView}
 use Rattle.records.specs.declared.SexpView.{SexpView}
+use Rattle.records.specs.declared.SexpView.the-variants.{Nil, Pair, Unknown}
+use Rattle.records.proofs.AnySexp.{Leaf, integer, text, name, leaf-places, unseen}
 use Rattle.records.proofs.Views.{first-of, rest-of}
-use Rattle.ordering.specs.Provisions.{fields-part, places, AddsOne, ListsNames}
+use Rattle.ordering.specs.Provisions.{places, AddsOne, ListsNames}
 use Rattle.ordering.specs.Words.{make-provides-set, pattern-provides}
 use Rattle.ordering.specs.declared.Listed.{Listed}
 use Rattle.ordering.proofs.EntryLaws.{Lists, adds-then, lists-then, OneName, lists-one, lists-none}
 
--- what a tag says of an S record
-module _ (s : Bytes) (v : SexpView) where
-  -- an SI, SQ or SA: its bytes, which are what it provides
-  as-leaf : (t : Sexp) → SexpAt s v t → v .tag ≡ 2 → (b : Bytes) × LeafAt s v (length (sexp-bytes t)) b × (make-provides-set t ≡ b ∷ [])
-  unfolding SexpAt make-provides-set
-  as-leaf (SN l) w q = absurd (omega (arith, w .0))
-  as-leaf (SC l h t) w q = absurd (omega (arith, w .0))
-  as-leaf (SI l b) w q = (b, w, refl)
-  as-leaf (SQ l k n) w q = (n, w, refl)
-  as-leaf (SA l n) w q = (n, w, refl)
+-- an SI, SQ or SA: its bytes, which are what it provides
+pub leaf-provides : {s : Bytes} {n : NameView} {v : SexpView} {t : Sexp} → Leaf n v → SexpAt s v t → (b : Bytes) × NameAt s n b (length (sexp-bytes t)) × (make-provides-set t ≡ b ∷ [])
+unfolding make-provides-set
+leaf-provides integer (integer-at {b = b} k) = (b, k, refl)
+leaf-provides text (text-at {n = n} k) = (n, k, refl)
+leaf-provides name (atom-at {n = n} k) = (n, k, refl)
 
-  -- an SN
-  as-nil : (t : Sexp) → SexpAt s v t → (v .tag ≡ 1 → ⊥) → (v .tag ≡ 2 → ⊥) → (v .end ≡ length (sexp-bytes t)) × (make-provides-set t ≡ [])
-  unfolding SexpAt make-provides-set
-  as-nil (SN l) w p q = (w .1, refl)
-  as-nil (SC l h t) w p q = absurd (p (w .0))
-  as-nil (SI l b) w p q = absurd (q (w .tag))
-  as-nil (SQ l k n) w p q = absurd (q (w .tag))
-  as-nil (SA l n) w p q = absurd (q (w .tag))
+-- an SN
+pub nil-provides : {s : Bytes} {e : ℕ} {t : Sexp} → SexpAt s (Nil e) t → (e ≡ length (sexp-bytes t)) × (make-provides-set t ≡ [])
+unfolding make-provides-set
+nil-provides (nil-at q) = (q, refl)
 
 -- what is left of a from a place on, as the code takes it
 part-is : (a : Bytes) (at : ℕ) → take (length a - at) (drop at a) ≡ drop at a
@@ -56,60 +50,73 @@ record PairAt (a : Bytes) (start e : ℕ) (t : Sexp) : Type 0 where
   whole : e ≡ start + length (sexp-bytes head) + length (sexp-bytes tail)
   provides : make-provides-set t ≡ make-provides-set head ++ make-provides-set tail
 
-as-pair : (a : Bytes) (at : ℕ) (v : SexpView) → at ≤ length a → v .tag ≡ 1 → (t : Sexp) → SexpFields t → SexpAt (drop at a) v t → PairAt a (at + v .start) (at + length (sexp-bytes t)) t
-unfolding SexpAt SexpFields make-provides-set
-as-pair a at v le q (SN l) k w = absurd (omega (arith, w .0))
-as-pair a at v le q (SC l h t) k w = record {
+as-pair : (a : Bytes) (at : ℕ) {p : ℕ} {t : Sexp} → at ≤ length a → SexpFields t → SexpAt (drop at a) (Pair p) t → PairAt a (at + p) (at + length (sexp-bytes t)) t
+unfolding SexpFields make-provides-set
+as-pair a at le k (pair-at {h = h} {t = u} {p = p} w q) = record {
   head = h;
-  tail = t;
+  tail = u;
   head-fields = k .1;
   tail-fields = k .2;
-  head-at = at-from-drop at le (first-of (w .1));
-  tail-at = at-place (at + v .start + length (sexp-bytes h)) (omega arith) (at-from-drop at le (first-of (rest-of (w .1))));
-  whole = omega (arith, w .2);
+  head-at = at-from-drop at le (first-of w);
+  tail-at = at-place (at + p + length (sexp-bytes h)) (omega arith) (at-from-drop at le (first-of (rest-of w)));
+  whole = omega arith;
   provides = refl;
 }
-as-pair a at v le q (SI l b) k w = absurd (omega (arith, w .tag))
-as-pair a at v le q (SQ l b n) k w = absurd (omega (arith, w .tag))
-as-pair a at v le q (SA l n) k w = absurd (omega (arith, w .tag))
 
 -- the S record at a place in the assign
 module _ (a : Bytes) (at : ℕ) {v : SexpView} (le : at ≤ length a) (h : SeesSexp (take (length a - at) (drop at a)) v) where
   seen : SeesSexp (drop at a) v
   seen = rw part-is at h
 
-  pub end-within : at + v .end ≤ length a
-  end-within = omega (arith, seen .within, length-drop at a)
-
   sees-at : (t : Sexp) → SexpFields t → At a at (sexp-bytes t) → SexpAt (drop at a) v t
   sees-at t k w = seen .sees t k (at-into-drop at (at-place (at + 0) (omega arith) w))
 
-  pub leaf-names : {before after : List ℕ} {n count : ℕ} → 0 < at → length a < places → n ≤ length before → v .tag ≡ 2 → AddsOne before after n (places * (at + v .start) + (at + v .end)) count
-      → ListsNames fields-part make-provides-set a at before after n (record { count = count; end = at + v .end })
-  leaf-names p small room q k = lists-one small room end-within (omega arith) (omega arith) (omega (arith, h .forward)) k go
-    where
-      go : (t : Sexp) → SexpFields t → At a at (sexp-bytes t) → OneName a (at + v .start) (at + v .end) (at + length (sexp-bytes t)) (make-provides-set t)
-      go t f w =
-          let l = as-leaf (drop at a) v t (sees-at t f w) q in
-          record { name = l .0; only = l .2; there = at-from-drop at le (l .1 .bytes); ends = omega (arith, l .1 .ends); whole = omega (arith, l .1 .whole) }
+  -- an SI, SQ or SA
+  module _ {b : NameView} (k : Leaf b v) where
+    pub leaf-in : BytesIn (length a - at) b
+    leaf-in = let p = leaf-places k (seen .places) in record { moved = p .moved; forward = p .forward; within = omega (arith, p .within, length-drop at a) }
 
-  pub nil-names : {before : List ℕ} {n : ℕ} → length a < places → n ≤ length before → (v .tag ≡ 1 → ⊥) → (v .tag ≡ 2 → ⊥) → ListsNames fields-part make-provides-set a at before before n (record { count = n; end = at + v .end })
-  nil-names small room p q =
-      lists-none small room end-within (omega arith)
-      λ t f w. let e = as-nil (drop at a) v t (sees-at t f w) p q in (omega (arith, e .0), e .1)
+    pub leaf-names : {before after : List ℕ} {n count : ℕ} → 0 < at → length a < places → n ≤ length before → AddsOne before after n (places * (at + b .start) + (at + b .end)) count
+        → ListsNames fields-part make-provides-set a at before after n (record { count = count; end = at + b .end })
+    leaf-names p small room f = let i = leaf-in in lists-one small room (omega (arith, i .within)) (omega arith) (omega arith) (omega (arith, i .forward)) f go
+      where
+        go : (t : Sexp) → SexpFields t → At a at (sexp-bytes t) → OneName a (at + b .start) (at + b .end) (at + length (sexp-bytes t)) (make-provides-set t)
+        go t f w =
+            let l = leaf-provides k (sees-at t f w) in
+            record { name = l .0; only = l .2; there = at-from-drop at le (l .1 .bytes); ends = omega (arith, l .1 .ends); whole = omega (arith, l .1 .past) }
 
-  pub pair-names : {before mid after : List ℕ} {n : ℕ} {x y : Listed} → v .tag ≡ 1 → ListsNames fields-part make-provides-set a (at + v .start) before mid n x
+module _ (a : Bytes) (at : ℕ) (le : at ≤ length a) where
+  abbrev Sees : SexpView → Type 0
+  Sees v = SeesSexp (take (length a - at) (drop at a)) v
+
+  -- where an SN ends
+  pub nil-in : {e : ℕ} → Sees (Nil e) → at + e ≤ length a
+  nil-in h = omega (arith, seen a at le h .places .1, length-drop at a)
+
+  pub nil-names : {before : List ℕ} {n e : ℕ} → Sees (Nil e) → length a < places → n ≤ length before → ListsNames fields-part make-provides-set a at before before n (record { count = n; end = at + e })
+  nil-names h small room =
+      lists-none small room (nil-in h) (omega arith)
+      λ t f w. let q = nil-provides (sees-at a at le h t f w) in (omega (arith, q .0), q .1)
+
+  pub no-names : {before : List ℕ} {n : ℕ} → Sees Unknown → length a < places → n ≤ length before → ListsNames fields-part make-provides-set a at before before n (record { count = n; end = length a })
+  no-names h small room = lists-none small room (omega arith) le λ t f w. absurd (unseen (sees-at a at le h t f w))
+
+  -- where the head of an SC stands
+  pub head-in : {p : ℕ} → Sees (Pair p) → (0 < p) × (at + p ≤ length a)
+  head-in h = let p = seen a at le h .places in (p .0, omega (arith, p .1, length-drop at a))
+
+  pub pair-names : {before mid after : List ℕ} {n p : ℕ} {x y : Listed} → Sees (Pair p) → ListsNames fields-part make-provides-set a (at + p) before mid n x
       → ListsNames fields-part make-provides-set a (x .end) mid after (x .count) y → ListsNames fields-part make-provides-set a at before after n y
-  pair-names {before} {after = after} {n} {x} {y} q f g = record {
+  pair-names {before} {after = after} {n} {x = x} {y} h f g = record {
     forward = omega (arith, f .forward, g .forward);
     within = g .within;
     adds = adds-then (f .adds) (g .adds);
     ends = λ t k w.
-        let o = as-pair a at v le q t k (sees-at t k w) in
+        let o = as-pair a at le k (sees-at a at le h t k w) in
         let e = f .ends (o .head) (o .head-fields) (o .head-at) in
         omega (arith, o .whole, e, g .ends (o .tail) (o .tail-fields) (at-place (x .end) (sym e) (o .tail-at)));
     lists = λ t k w room.
-        let o = as-pair a at v le q t k (sees-at t k w) in
+        let o = as-pair a at le k (sees-at a at le h t k w) in
         let l : length (make-provides-set t) ≡ length (make-provides-set (o .head)) + length (make-provides-set (o .tail)) =
         ap length (o .provides) ∙ length-append (make-provides-set (o .head)) (make-provides-set (o .tail)) in
         let e = f .ends (o .head) (o .head-fields) (o .head-at) in

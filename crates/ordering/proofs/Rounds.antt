@@ -39,7 +39,7 @@ module _ (bs : List Item) where
 
   -- with all placed, no turn is left
   all-turned : (m : ℕ) (r : Row) → length (r .row) ≤ r .placed → (turns bs m r ≡ ordered (r .row)) × (rounds-from bs m r ≡ 0)
-  all-turned zero r h = (refl, refl)
+  all-turned zero r h = rw (le-ltb (r .placed) (length (r .row)) h) (refl, refl)
   all-turned (suc m) r h = rw (le-ltb (r .placed) (length (r .row)) h) (refl, refl)
 
   module _ {k : ℕ} {row : List ℕ} {placed : ℕ} (w : Turned k row placed) where

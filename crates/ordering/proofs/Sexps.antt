@@ -8,18 +8,21 @@ use lib.ListN.{length}
 use Rattle.names.specs.Names.{Bytes}
 use Rattle.names.specs.Segments.{At}
 use Rattle.names.proofs.Parts.{into, part, part-length}
-use Rattle.names.proofs.Places.{at-place, at-is}
-use Rattle.records.specs.Records.{Sexp, SN, SC, SI, SQ, SA, sexp-bytes}
+use Rattle.names.proofs.Places.{at-place}
+use Rattle.records.specs.Records.{Sexp, sexp-bytes}
 use Rattle.records.specs.Sexps.{all-zero, truthy}
 use Rattle.records.specs.Valid.{SexpFields}
-use Rattle.records.specs.Parts.{Part}
-use Rattle.records.specs.Views.{SexpAt, SeesSexp, LeafAt}
+use Rattle.records.specs.Parts.{Part, fields-part}
+use Rattle.records.specs.Views.{NameAt, SexpAt, nil-at, pair-at, integer-at, text-at, atom-at, SeesSexp}
+use Rattle.records.specs.declared.NameView.{NameView}
 use Rattle.records.specs.declared.SexpView.{SexpView}
+use Rattle.records.specs.declared.SexpView.the-variants.{Nil, Pair, Unknown}
+use Rattle.records.proofs.AnySexp.{Leaf, integer, text, name, leaf-places, bytes-are, unseen}
 use Rattle.records.proofs.Views.{first-of, rest-of}
 use Rattle.ordering.specs.declared.Listed.{Listed}
 use Rattle.ordering.specs.Listing.{Names, Lists, Reaches}
-use Rattle.ordering.specs.Provisions.{fields-part}
 use Rattle.ordering.specs.Words.{make-provides-set}
+use Rattle.ordering.proofs.Patterns.{leaf-provides, nil-provides}
 use Rattle.ordering.proofs.NeedLaws.{names-none, names-then}
 
 -- what is known of every tree that stands at a place
@@ -52,88 +55,63 @@ module _ {p : Part} {names : p .0 → List Bytes} {a : Bytes} {ps : List ℕ} {s
 pub reaches-none : {p : Part} {names : p .0 → List Bytes} {a : Bytes} {ps : List ℕ} {s : Bytes} {at : ℕ} {l : List ℕ} {n : ℕ} → at ≡ 0 → n ≤ length l → Reaches 1 p names a ps s at l l n (record { count = n; end = 0 })
 reaches-none e h = record { within = omega arith; room = h; tells = λ z. absurd (omega arith) }
 
--- an S record, by the tag of its view
-module _ {a : Bytes} {ps : List ℕ} {s : Bytes} {v : SexpView} (x : SeesSexp s v) where
-  module _ {l₀ l₁ l₂ : List ℕ} {n : ℕ} {h r : Listed} where
-    pub pair-lists : v .tag ≡ 1 → Lists fields-part make-provides-set a ps s (v .start) l₀ l₁ n h → Lists fields-part make-provides-set a ps s (h .end) l₁ l₂ (h .count) r → length l₁ ≡ length l₀
+-- an S record, by its view
+module _ {a : Bytes} {ps : List ℕ} {s : Bytes} where
+  module _ {l₀ l₁ l₂ : List ℕ} {n p : ℕ} {h r : Listed} where
+    pub pair-lists : SeesSexp s (Pair p) → Lists fields-part make-provides-set a ps s p l₀ l₁ n h → Lists fields-part make-provides-set a ps s (h .end) l₁ l₂ (h .count) r → length l₁ ≡ length l₀
         → Lists fields-part make-provides-set a ps s 0 l₀ l₂ n r
-    unfolding SexpFields SexpAt make-provides-set
-    pair-lists q f g e = lists-of (omega arith) (g .within) (omega (arith, g .room)) (λ t w k. go t w (x .sees t w k))
+    unfolding SexpFields make-provides-set
+    pair-lists x f g e = lists-of (omega arith) (g .within) (omega (arith, g .room)) (λ t w k. go w (x .sees t w k))
       where
-        go : (t : Sexp) → SexpFields t → SexpAt s v t → (r .end ≡ 0 + length (sexp-bytes t)) × Names (make-provides-set t) a ps l₀ l₂ n (r .count)
-        go (SN l) w k = absurd (omega arith)
-        go (SC l hd tl) w k =
-            let i = told f hd (w .1) (first-of (k .1)) in
-            let j = told g tl (w .2) (at-place (h .end) (sym (i .0)) (first-of (rest-of (k .1)))) in
-            (omega (arith, i .0, j .0, k .2), names-then (omega (arith, g .room)) (i .1) (j .1))
-        go (SI l b) w k = absurd (omega (arith, k .tag))
-        go (SQ l b m) w k = absurd (omega (arith, k .tag))
-        go (SA l m) w k = absurd (omega (arith, k .tag))
+        go : {t : Sexp} → SexpFields t → SexpAt s (Pair p) t → (r .end ≡ 0 + length (sexp-bytes t)) × Names (make-provides-set t) a ps l₀ l₂ n (r .count)
+        go w (pair-at {h = hd} {t = tl} k q) =
+            let i = told f hd (w .1) (first-of k) in
+            let j = told g tl (w .2) (at-place (h .end) (sym (i .0)) (first-of (rest-of k))) in
+            (omega (arith, i .0, j .0), names-then (omega (arith, g .room)) (i .1) (j .1))
 
-  module _ {l l′ : List ℕ} {n r : ℕ} where
-    -- an SI, SQ or SA, whose bytes are one name
-    pub leaf-lists : v .tag ≡ 2 → Names (part s (v .start) (v .end - v .start) ∷ []) a ps l l′ n r → Lists fields-part make-provides-set a ps s 0 l l′ n (record { count = r; end = v .end })
-    unfolding SexpFields SexpAt make-provides-set
-    leaf-lists q f = lists-of (omega arith) (x .within) (f .room) (λ t w k. go t (x .sees t w k))
-      where
-        leaf : {m : ℕ} {b : Bytes} → LeafAt s v m b → (v .end ≡ 0 + m) × Names (b ∷ []) a ps l l′ n r
-        leaf {b = b} k =
-            let e : part s (v .start) (v .end - v .start) ≡ b = at-is (v .start) (v .end - v .start) refl (omega (arith, k .ends)) (k .bytes) in
-            (omega (arith, k .whole), rw e at f)
-
-        go : (t : Sexp) → SexpAt s v t → (v .end ≡ 0 + length (sexp-bytes t)) × Names (make-provides-set t) a ps l l′ n r
-        go (SN y) k = absurd (omega arith)
-        go (SC y hd tl) k = absurd (omega arith)
-        go (SI y b) k = leaf k
-        go (SQ y b m) k = leaf k
-        go (SA y m) k = leaf k
-
-  -- an SN, or none of them
-  pub nil-lists : {l : List ℕ} {n : ℕ} → (v .tag ≡ 1 → ⊥) → (v .tag ≡ 2 → ⊥) → n ≤ length l → Lists fields-part make-provides-set a ps s 0 l l n (record { count = n; end = v .end })
-  unfolding SexpFields SexpAt make-provides-set
-  nil-lists {l} {n} p q h = lists-of (omega arith) (x .within) h (λ t w k. go t (x .sees t w k))
+  -- an SI, SQ or SA, whose bytes are one name
+  pub leaf-lists : {l l′ : List ℕ} {n r : ℕ} {b : NameView} {v : SexpView} → Leaf b v → SeesSexp s v → Names (part s (b .start) (b .end - b .start) ∷ []) a ps l l′ n r
+      → Lists fields-part make-provides-set a ps s 0 l l′ n (record { count = r; end = b .end })
+  leaf-lists {l} {l′} {n} {r} {b} k x f = lists-of (omega arith) (leaf-places k (x .places) .within) (f .room) (λ t w h. go t (leaf-provides k (x .sees t w h)))
     where
-      go : (t : Sexp) → SexpAt s v t → (v .end ≡ 0 + length (sexp-bytes t)) × Names (make-provides-set t) a ps l l n n
-      go (SN y) k = (omega (arith, k .1), names-none h)
-      go (SC y hd tl) k = absurd (p (k .0))
-      go (SI y b) k = absurd (q (k .tag))
-      go (SQ y b m) k = absurd (q (k .tag))
-      go (SA y m) k = absurd (q (k .tag))
+      go : (t : Sexp) → (c : Bytes) × NameAt s b c (length (sexp-bytes t)) × (make-provides-set t ≡ c ∷ []) → (b .end ≡ 0 + length (sexp-bytes t)) × Names (make-provides-set t) a ps l l′ n r
+      go t (c, h, q) = (omega (arith, h .past), rw (q, ← bytes-are h) f)
 
--- whether an S record is true, by the tag of its view
-module _ {s : Bytes} {v : SexpView} (x : SeesSexp s v) (t : Sexp) (w : SexpFields t) (k : At s 0 (sexp-bytes t)) where
-  pub nil-truth : v .tag ≡ 0 → false ≡ truthy t
-  unfolding SexpAt truthy
-  nil-truth q = go t (x .sees t w k)
+  -- an SN
+  pub nil-lists : {l : List ℕ} {n e : ℕ} → SeesSexp s (Nil e) → n ≤ length l → Lists fields-part make-provides-set a ps s 0 l l n (record { count = n; end = e })
+  nil-lists x h = lists-of (omega arith) (x .places .1) h (λ t w k. let q = nil-provides (x .sees t w k) in (omega (arith, q .0), rw (q .1) (names-none h)))
+
+  -- none of them
+  pub no-lists : {l : List ℕ} {n : ℕ} → SeesSexp s Unknown → n ≤ length l → Lists fields-part make-provides-set a ps s 0 l l n (record { count = n; end = length s })
+  no-lists x h = lists-of (omega arith) (omega arith) h (λ t w k. absurd (unseen (x .sees t w k)))
+
+-- whether an S record is true, by its view
+module _ {s : Bytes} (t : Sexp) (w : SexpFields t) (k : At s 0 (sexp-bytes t)) where
+  pub nil-truth : {e : ℕ} → SeesSexp s (Nil e) → false ≡ truthy t
+  unfolding truthy
+  nil-truth {e} x = go (x .sees t w k)
     where
-      go : (u : Sexp) → SexpAt s v u → false ≡ truthy u
-      go (SN y) e = refl
-      go (SC y hd tl) e = absurd (omega arith)
-      go (SI y b) e = absurd (omega (arith, e .tag))
-      go (SQ y b m) e = absurd (omega (arith, e .tag))
-      go (SA y m) e = absurd (omega (arith, e .tag))
+      go : {u : Sexp} → SexpAt s (Nil e) u → false ≡ truthy u
+      go (nil-at q) = refl
 
-  pub leaf-truth : {r : Bool} → v .tag ≡ 2 → r ≡ not (all-zero (part s (v .start) (v .end - v .start))) → r ≡ truthy t
-  unfolding SexpAt truthy
-  leaf-truth {r} q h = h ∙ go t (x .sees t w k)
+  pub leaf-truth : {r : Bool} {n : NameView} {v : SexpView} → Leaf n v → SeesSexp s v → r ≡ not (all-zero (part s (n .start) (n .end - n .start))) → r ≡ truthy t
+  unfolding truthy
+  leaf-truth {n = n} l x h = h ∙ go l (x .sees t w k)
     where
-      leaf : {m : ℕ} {b : Bytes} → LeafAt s v m b → not (all-zero (part s (v .start) (v .end - v .start))) ≡ not (all-zero b)
-      leaf e = ap (λ (y : Bytes). not (all-zero y)) (at-is (v .start) (v .end - v .start) refl (omega (arith, e .ends)) (e .bytes))
+      zero : {b : Bytes} {e : ℕ} → NameAt s n b e → not (all-zero (part s (n .start) (n .end - n .start))) ≡ not (all-zero b)
+      zero e = ap (λ (y : Bytes). not (all-zero y)) (bytes-are e)
 
-      go : (u : Sexp) → SexpAt s v u → not (all-zero (part s (v .start) (v .end - v .start))) ≡ truthy u
-      go (SN y) e = absurd (omega arith)
-      go (SC y hd tl) e = absurd (omega arith)
-      go (SI y b) e = leaf e
-      go (SQ y b m) e = leaf e
-      go (SA y m) e = leaf e
+      go : {v : SexpView} {u : Sexp} → Leaf n v → SexpAt s v u → not (all-zero (part s (n .start) (n .end - n .start))) ≡ truthy u
+      go integer (integer-at e) = zero e
+      go text (text-at e) = zero e
+      go name (atom-at e) = zero e
 
-  pub pair-truth : (v .tag ≡ 0 → ⊥) → (v .tag ≡ 2 → ⊥) → true ≡ truthy t
-  unfolding SexpAt truthy
-  pair-truth p q = go t (x .sees t w k)
+  pub pair-truth : {p : ℕ} → SeesSexp s (Pair p) → true ≡ truthy t
+  unfolding truthy
+  pair-truth {p} x = go (x .sees t w k)
     where
-      go : (u : Sexp) → SexpAt s v u → true ≡ truthy u
-      go (SN y) e = absurd (p (e .0))
-      go (SC y hd tl) e = refl
-      go (SI y b) e = absurd (q (e .tag))
-      go (SQ y b m) e = absurd (q (e .tag))
-      go (SA y m) e = absurd (q (e .tag))
+      go : {u : Sexp} → SexpAt s (Pair p) u → true ≡ truthy u
+      go (pair-at e q) = refl
+
+  pub no-truth : SeesSexp s Unknown → true ≡ truthy t
+  no-truth x = absurd (unseen (x .sees t w k))

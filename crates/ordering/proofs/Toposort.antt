@@ -37,8 +37,15 @@ cond-right x true h = refl
 cond-right x false h = h tt
 
 module _ (bs : List Item) where
+  -- l is what a turn that picks nothing leaves
+  pub record Idle (l : List ℕ) : Type 0 where
+    pub row : Row
+    pub rest : drop (row .placed) (row .row) ≡ l
+    pub none : (p : ℕ) → ¬ (p is-in picked bs row)
+
   -- what is left at a deadlock: something, and just what no lawful order has
   record Left (l : List ℕ) : Type 0 where
+    idle : Idle l
     some : OfSome (length bs) l
     one : (i : ℕ) × (i is-in l)
     stuck : (i : ℕ) → i is-in l → Stuck bs i
@@ -83,6 +90,7 @@ module _ (bs : List Item) where
 
       left : r .placed < length (r .row) → Left (drop (r .placed) (r .row))
       left h = record {
+        idle = record { row = r; rest = refl; none = empty };
         some = left-some;
         one = (getD (r .row) (r .placed) 0, at-in-drop (r .row) (r .placed) (r .placed) 0 h (omega arith));
         stuck = λ i m.
@@ -118,7 +126,7 @@ module _ (bs : List Item) where
   progress r t = omega (arith, placed-by bs r (picked bs r), some-in (picked bs r) t)
 
   turns-owed : (n : ℕ) (r : Row) → Good bs r → length bs ≤ n + r .placed → Owed (turns bs n r)
-  turns-owed zero r g h = all-placed r g (omega arith)
+  turns-owed zero r g h = let le : length (r .row) ≤ r .placed = omega arith in rw (le-ltb (r .placed) (length (r .row)) le) (all-placed r g le)
   turns-owed (suc n) r g h =
       by-cond Owed (ltb (r .placed) (length (r .row)))
       (λ t.
@@ -144,6 +152,10 @@ module _ (bs : List Item) where
   pub enough : (n : ℕ) → length bs ≤ n → turns bs n (start (length bs)) ≡ toposort bs
   unfolding toposort
   enough n h = more-turns n (length bs) (start (length bs)) (good-start bs) (omega arith) (omega arith)
+
+  -- the turns never run out: a deadlock always comes from a turn that picks nothing
+  pub never-out : (l : List ℕ) → toposort bs ≡ deadlock l → Idle l
+  never-out l e = let left′ : Left l = rw e at owed in left′ .idle
 
   -- an order that is found has each index once, and is lawful
   pub sound : (o : List ℕ) → toposort bs ≡ ordered o → Full bs o

@@ -7,8 +7,10 @@ use mathlib.Core.Path.{_≡_}
 use Prim.Native.Nat.{ℕ, _≤_}
 use lib.Dec.{leb}
 use lib.ListN.{length}
-use Rattle.names.specs.Answers.{Result, written, refusal}
+use Rattle.names.specs.Answers.{Result, written, refused-answer, accepted-answer}
 use Rattle.names.specs.Names.{Bytes}
+use Rattle.names.specs.Refusals.{place-at, refusing, placeless}
+use Rattle.names.specs.declared.Place.{Place}
 use Rattle.records.specs.Records.{Loc, loc-number, Body, BL, BQ, BV, BC, BM, BF, Binding, list-of}
 use Rattle.records.specs.Read.{assign-of}
 use Rattle.records.specs.Opened.{opened, closed, open-input}
@@ -34,20 +36,20 @@ let-loc (BM l f) = []
 let-loc (BF l w ca c a b) = []
 
 -- the indices of the stuck bindings, in the sequence in which `toposort` leaves them
-unfoldable pub stuck-answer : ℕ → ℕ → Bytes → Bytes → Result
-stuck-answer c l buffer is = (record { number = 5; place = l; counter = c; rounds = 0; len = length is }, written is buffer)
+unfoldable pub stuck-answer : ℕ → Place → Bytes → Bytes → Result
+stuck-answer c p buffer is = (record { refusal = refusing 5 p; counter = c; rounds = 0; len = length is }, written is buffer)
 
 -- the indices in order, and the turns that placed them
 unfoldable pub order-answer : ℕ → Bytes → ℕ → Bytes → Result
-order-answer c buffer turns is = (record { number = 0; place = 0; counter = c; rounds = turns; len = length is }, written is buffer)
+order-answer c buffer turns is = (accepted-answer c turns (length is), written is buffer)
 
 -- an assign that is read: 8 where the buffer is shorter than the binding count; then its order, or 5
 unfoldable pub order-of : ℕ → Bytes → Body → Result
 order-of c buffer a =
     elim (leb (length (bindings-of a)) (length buffer)) [
-      | false ↦ refusal c buffer 8 0
+      | false ↦ refused-answer c buffer (placeless 8)
       | true ↦ elim (toposort-assign-bindings (bindings-of a)) [
-        | deadlock is ↦ stuck-answer c (loc-number (let-loc a)) buffer is
+        | deadlock is ↦ stuck-answer c (place-at (loc-number (let-loc a))) buffer is
         | ordered is ↦ order-answer c buffer (rounds (items (bindings-of a))) is
       ]
     ]
@@ -55,14 +57,14 @@ order-of c buffer a =
 -- the call Order: the refusals before any work, then the order
 unfoldable pub order-call : ℕ → ℕ → ℕ → Bytes → Bytes → Result
 order-call F work c input buffer =
-    elim (open-input assign-of F work c input) [ closed n p ↦ refusal c buffer n p | opened a ↦ order-of c buffer a ]
+    elim (open-input assign-of F work c input) [ closed r ↦ refused-answer c buffer r | opened a ↦ order-of c buffer a ]
 
 -- What is true of the rounds, which are free between 1 and the count (0 for none): no more than the indices, at least one where there are
 -- some, and none with a refusal.
 pub record Rounds (r : Result) : Type 0 where
   pub few : r .0 .rounds ≤ r .0 .len
-  pub some : r .0 .number ≡ 0 → 1 ≤ r .0 .len → 1 ≤ r .0 .rounds
-  pub none : r .0 .number ≢ 0 → r .0 .rounds ≡ 0
+  pub some : r .0 .refusal .number ≡ 0 → 1 ≤ r .0 .len → 1 ≤ r .0 .rounds
+  pub none : r .0 .refusal .number ≢ 0 → r .0 .rounds ≡ 0
 
 -- unfolds with every definition of this file
 unfoldable pub computing-order-call : Unit {0}

@@ -6,16 +6,11 @@ use Prim.Native.Nat.{ℕ, zero, suc, _+_, _/_, _%_, _≤_, _<_}
 use lib.ListN.{length, getD}
 use Rattle.names.specs.Names.{Bytes}
 use Rattle.names.specs.Segments.{At, SameOutside, Filled}
-use Rattle.records.specs.Records.{Sexp, sexp-bytes, Binding, BB}
-use Rattle.records.specs.Valid.{SexpFields}
+use Rattle.records.specs.Records.{Binding, BB}
 use Rattle.records.specs.Parts.{Part}
 use Rattle.ordering.specs.declared.Listed.{Listed}
 use Rattle.ordering.specs.Needs.{binding-limit}
 use Rattle.ordering.specs.Words.{pattern-provides}
-
--- S records, whatever their depth
-abbrev pub fields-part : Part
-fields-part = (Sexp, sexp-bytes, SexpFields)
 
 -- more than every place in a record
 abbrev pub places : ℕ

@@ -53,15 +53,15 @@ abbrev pub is-empty : List ℕ → Bool
 is-empty [] = true
 is-empty (x ∷ xs) = false
 
--- at most so many turns
+-- at most so many turns: with all placed, the order; with no turn left, or one that picks nothing, a deadlock
 abbrev pub turns : List Item → ℕ → Row → Outcome
-turns bs zero r = ordered (r .row)
+turns bs zero r = cond (ltb (r .placed) (length (r .row))) (deadlock (drop (r .placed) (r .row))) (ordered (r .row))
 turns bs (suc n) r =
     let more : Outcome = turns bs n (turn bs r) in
     let go : Outcome = cond (is-empty (picked bs r)) (deadlock (drop (r .placed) (r .row))) more in
     cond (ltb (r .placed) (length (r .row))) go (ordered (r .row))
 
--- each turn but the last places one at least, so as many turns as there are bindings are enough (`enough` of proofs/Toposort.antt)
+-- each turn but the last places one at least, so as many turns as there are bindings are enough (`enough` and `never-out` of proofs/Toposort.antt)
 unfoldable pub toposort : List Item → Outcome
 toposort bs = turns bs (length bs) (start (length bs))
 

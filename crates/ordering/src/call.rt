@@ -2,9 +2,14 @@
 use crate::Order;
 use crate::assign::toposort_assign_bindings;
 use names::Answer;
+use names::Place;
 use names::bytes::number;
 use names::bytes::put;
+use names::call::accepted;
 use names::call::refused;
+use names::refusals::place_at;
+use names::refusals::placeless;
+use names::refusals::refusing;
 use records::LOC_WIDTH;
 use records::Opening;
 use records::Wanted;
@@ -28,17 +33,11 @@ fn ordered(o: Order, counter: u64, result: &mut [u8]) -> Answer
     let row = o.row;
     let len = o.count;
     put(result, 0, &row[..len]);
-    Answer {
-        number: 0,
-        place: 0,
-        counter,
-        rounds: o.rounds as u64,
-        len,
-    }
+    accepted(counter, o.rounds as u64, len)
 }
 
 // Writes the stuck bindings.
-fn stuck(o: Order, place: u64, counter: u64, result: &mut [u8]) -> Answer
+fn stuck(o: Order, place: Place, counter: u64, result: &mut [u8]) -> Answer
     requires { ⌜ (o .count ≤ binding-limit) × (length (o .row) ≡ binding-limit) × (o .placed ≤ o .count) × (o .count ≤ length (now result)) ⌝ }
     ensures { λ r. ⌜ (r, now (result .exit)) ≡ stuck-answer counter place (now (result .entry)) (take (o .count - o .placed) (drop (o .placed) (o .row))) ⌝ }
 {
@@ -47,8 +46,7 @@ fn stuck(o: Order, place: u64, counter: u64, result: &mut [u8]) -> Answer
     let end = o.count;
     put(result, 0, &row[from..end]);
     Answer {
-        number: 5,
-        place,
+        refusal: refusing(5, place),
         counter,
         rounds: 0,
         len: end - from,
@@ -63,12 +61,13 @@ fn order_of(counter: u64, s: &[u8], result: &mut [u8]) -> Answer
 {
     let v = let_view(s);
     if result.len() < v.count as usize {
-        return refused(8, 0, counter);
+        return refused(placeless(8), counter);
     }
     let o = toposort_assign_bindings(s);
     if o.placed < o.count {
         let loc = v.loc;
-        stuck(o, number(s, loc, LOC_WIDTH) as u64, counter, result)
+        let place = place_at(number(s, loc, LOC_WIDTH) as u64);
+        stuck(o, place, counter, result)
     } else {
         ordered(o, counter, result)
     }
@@ -87,7 +86,7 @@ pub fn order_call(
 {
     let opening = open_input(Wanted::Assign, f, work.len(), counter, input);
     match opening {
-        Opening::Refused(n, place) => refused(n, place as u64, counter),
+        Opening::Refused(refusal) => refused(refusal, counter),
         Opening::Accepted => order_of(counter, input, result),
     }
 }

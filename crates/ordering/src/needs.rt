@@ -6,6 +6,7 @@ use crate::provides::providers;
 use records::Family;
 use records::LOC_WIDTH;
 use records::MARK_WIDTH;
+use records::SexpView;
 use records::bodies::call_view;
 use records::bodies::lambda_view;
 use records::bodies::let_view;
@@ -28,9 +29,9 @@ ghost use Rattle.records.specs.Read.{kind-of};
 ghost use Rattle.records.specs.Sexps.{truthy};
 ghost use Rattle.records.specs.Valid.{SexpFields};
 ghost use Rattle.records.specs.declared.Family.the-variants.{Body as a-body};
-ghost use Rattle.records.specs.Parts.{family-part, pattern-part, list-part};
+ghost use Rattle.records.specs.Parts.{family-part, fields-part, pattern-part, list-part};
 ghost use Rattle.ordering.specs.Listing.{Names, Lists, Reaches, kind-part, member-part, member-words, all-words};
-ghost use Rattle.ordering.specs.Provisions.{Given, fields-part};
+ghost use Rattle.ordering.specs.Provisions.{Given};
 ghost use Rattle.ordering.specs.Words.{make-provides-set, let-word, captured, pattern-provides, words};
 
 // A name, if some binding provides it.
@@ -55,19 +56,24 @@ fn sexp_needs(a: &[u8], given: &[usize], s: &[u8], needs: &mut [u64], n: usize) 
     ensures { λ r. ⌜ Lists fields-part make-provides-set (now (a .entry)) (now (given .entry)) (now (s .entry)) 0 (now (needs .entry)) (now (needs .exit)) n r ⌝ }
 {
     let v = sexp_view(s);
-    let start = v.start;
-    let end = v.end;
-    let tag = v.tag;
-    match tag {
-        1 => {
-            let h = child_sexp(a, given, s, start, needs, n);
+    match v {
+        SexpView::Nil(end) => Listed { count: n, end },
+        SexpView::Pair(head) => {
+            let h = child_sexp(a, given, s, head, needs, n);
             child_sexp(a, given, s, h.end, needs, h.count)
         }
-        2 => Listed {
-            count: word(a, given, &s[start..end], needs, n),
-            end,
+        SexpView::Integer(b) | SexpView::Text(b) | SexpView::Atom(b) => {
+            let start = b.start;
+            let end = b.end;
+            Listed {
+                count: word(a, given, &s[start..end], needs, n),
+                end,
+            }
+        }
+        SexpView::Unknown => Listed {
+            count: n,
+            end: s.len(),
         },
-        _ => Listed { count: n, end },
     }
 }
 
@@ -88,13 +94,15 @@ fn truthy(s: &[u8]) -> bool
     ensures { λ r. ⌜ ((t : Sexp) → SexpFields t → At (now (s .entry)) 0 (sexp-bytes t) → r ≡ truthy t) ⌝ }
 {
     let v = sexp_view(s);
-    let start = v.start;
-    let end = v.end;
-    let tag = v.tag;
-    match tag {
-        0 => false,
-        2 => !all_zero(&s[start..end]),
-        _ => true,
+    match v {
+        SexpView::Nil(_) => false,
+        SexpView::Integer(b) | SexpView::Text(b) | SexpView::Atom(b) => {
+            let start = b.start;
+            let end = b.end;
+            !all_zero(&s[start..end])
+        }
+        SexpView::Pair(_) => true,
+        SexpView::Unknown => true,
     }
 }
 
@@ -139,7 +147,11 @@ fn let_needs(a: &[u8], given: &[usize], s: &[u8], needs: &mut [u64], n: usize) -
 {
     let v = let_view(s);
     let c = let_word(a, given, v.kind, needs, n);
-    let b = times(a, given, s, true, v.count, v.first, needs, c);
+    let from = Listed {
+        count: c,
+        end: v.first,
+    };
+    let b = times(a, given, s, true, v.count, from, needs);
     child(a, given, s, false, b.end, needs, b.count)
 }
 
@@ -149,7 +161,11 @@ fn call_needs(a: &[u8], given: &[usize], s: &[u8], needs: &mut [u64], n: usize) 
     ensures { λ r. ⌜ Reaches 0 (kind-part 3) words (now (a .entry)) (now (given .entry)) (now (s .entry)) 0 (now (needs .entry)) (now (needs .exit)) n r ⌝ }
 {
     let v = call_view(s);
-    let e = times(a, given, s, false, v.count, v.first, needs, n);
+    let from = Listed {
+        count: n,
+        end: v.first,
+    };
+    let e = times(a, given, s, false, v.count, from, needs);
     let t = tagged_view(s, e.end);
     if t.tag == 0 {
         return Listed {
@@ -272,21 +288,20 @@ fn member_needs(
     }
 }
 
-// The names of `count` bindings or bodies from a place on.
+// The names of `count` bindings or bodies from a place on, behind the needs listed so far.
 fn times(
     a: &[u8],
     given: &[usize],
     s: &[u8],
     binding: bool,
     count: u8,
-    at: usize,
+    from: Listed,
     needs: &mut [u64],
-    n: usize,
 ) -> Listed
-    requires { ⌜ Given (now a) (now given) × (at ≤ length (now s)) × (n ≤ length (now needs)) ⌝ }
-    ensures { λ r. ⌜ Reaches 1 (list-part (member-part binding) count) (all-words (member-words binding)) (now (a .entry)) (now (given .entry)) (now (s .entry)) at (now (needs .entry)) (now (needs .exit)) n r ⌝ }
+    requires { ⌜ Given (now a) (now given) × (from .end ≤ length (now s)) × (from .count ≤ length (now needs)) ⌝ }
+    ensures { λ r. ⌜ Reaches 1 (list-part (member-part binding) count) (all-words (member-words binding)) (now (a .entry)) (now (given .entry)) (now (s .entry)) (from .end) (now (needs .entry)) (now (needs .exit)) (from .count) r ⌝ }
 {
-    let mut r = Listed { count: n, end: at };
+    let mut r = from;
     let mut i = 0;
     while i < count {
         r = child(a, given, s, binding, r.end, needs, r.count);

@@ -4,6 +4,7 @@
 use crate::Listed;
 use crate::PLACES;
 use names::bytes::same;
+use records::SexpView;
 use records::past::name_view;
 use records::sexps::sexp_view;
 ghost use mathlib.Core.List.{List};
@@ -11,8 +12,8 @@ ghost use mathlib.Core.Path.{_≡_};
 ghost use Prim.Native.Nat.{_+_, _*_, _≤_, _<_};
 ghost use lib.ListN.{length};
 ghost use Rattle.records.specs.Records.{Binding};
-ghost use Rattle.records.specs.Parts.{pattern-part};
-ghost use Rattle.ordering.specs.Provisions.{fields-part, places, Provisions, Given, AddsOne, ListsNames};
+ghost use Rattle.records.specs.Parts.{fields-part, pattern-part};
+ghost use Rattle.ordering.specs.Provisions.{places, Provisions, Given, AddsOne, ListsNames};
 ghost use Rattle.ordering.specs.Needs.{providers};
 ghost use Rattle.ordering.specs.Words.{make-provides-set, pattern-provides, items};
 
@@ -34,19 +35,27 @@ fn sexp_names(a: &[u8], at: usize, given: &mut [usize], n: usize) -> Listed
     ensures { λ r. ⌜ ListsNames fields-part make-provides-set (now (a .entry)) at (now (given .entry)) (now (given .exit)) n r ⌝ }
 {
     let v = sexp_view(&a[at..]);
-    let start = at + v.start;
-    let end = at + v.end;
-    let tag = v.tag;
-    match tag {
-        1 => {
-            let h = sexp_names(a, start, given, n);
+    match v {
+        SexpView::Nil(end) => Listed {
+            count: n,
+            end: at + end,
+        },
+        SexpView::Pair(head) => {
+            let h = sexp_names(a, at + head, given, n);
             sexp_names(a, h.end, given, h.count)
         }
-        2 => Listed {
-            count: entry(given, n, start, end),
-            end,
+        SexpView::Integer(b) | SexpView::Text(b) | SexpView::Atom(b) => {
+            let start = at + b.start;
+            let end = at + b.end;
+            Listed {
+                count: entry(given, n, start, end),
+                end,
+            }
+        }
+        SexpView::Unknown => Listed {
+            count: n,
+            end: a.len(),
         },
-        _ => Listed { count: n, end },
     }
 }
 

@@ -12,12 +12,12 @@ use lib.Dec.{leb, le→leb}
 use lib.ListN.{length, length-append}
 use Rattle.names.specs.Names.{Bytes, ascii, same, number-field, number-of, number-after, name-width, name-field}
 use Rattle.records.specs.Limits.{level-limit, cons-limit, lambda-limit, count-limit}
-use Rattle.records.specs.Records.{Loc, loc-width, byte, integer-field, Sexp, SN, SC, SI, SQ, SA, sexp-bytes, record-bytes, Kind, Parallel, Sequential, Assign, kind-field, Pattern, Name, Complex, pattern-field, Body, BL, BQ, BV, BC, BM, BF, body-bytes, Bodies, []ᵇ, _∷ᵇ_, bodies-bytes, Tail, no-tail, tail, tail-bytes, Binding, BB, binding-bytes, Bindings, []ᵍ, _∷ᵍ_, bindings-bytes, Helper, HC, HM, HD, HN, HR, helper-bytes, Helpers, []ʰ, _∷ʰ_, helpers-bytes, Form, CF, form-bytes, to-bodies, to-bindings, list-of, to-helpers, bodies-count, bindings-count, helpers-count}
-use Rattle.records.proofs.Readers.{true-of, from-first}
+use Rattle.records.specs.Records.{mark-width, Loc, loc-width, byte, integer-field, Sexp, SN, SC, SI, SQ, SA, sexp-bytes, record-bytes, Kind, Parallel, Sequential, Assign, kind-field, Pattern, Name, Complex, pattern-field, Body, BL, BQ, BV, BC, BM, BF, body-bytes, Bodies, []ᵇ, _∷ᵇ_, bodies-bytes, Tail, no-tail, tail, tail-bytes, Binding, BB, binding-bytes, Bindings, []ᵍ, _∷ᵍ_, bindings-bytes, Helper, HC, HM, HD, HN, HR, helper-bytes, Helpers, []ʰ, _∷ʰ_, helpers-bytes, Form, CF, form-bytes, to-bodies, to-bindings, list-of, to-helpers, bodies-count, bindings-count, helpers-count}
+use Rattle.records.proofs.Readers.{true-of}
 use Rattle.records.proofs.Depth.{levels-split}
 use Rattle.records.specs.Depth.{depth, bodies-depth, tail-depth, binding-depth, bindings-depth, helper-depth, helpers-depth, form-depth}
 use Rattle.records.specs.Valid.{ValidLoc, ValidName, ValidKeyword, ValidHint, ValidRaw, ValidCount, cons-depth, SexpFields, ValidSexp, ValidPattern, BodyFields, BodiesFields, TailFields, BindingFields, BindingsFields, HelperFields, HelpersFields, FormFields, lambda-depth, bodies-lambda-depth, tail-lambda-depth, binding-lambda-depth, bindings-lambda-depth, helper-lambda-depth, helpers-lambda-depth, form-lambda-depth, ValidBody, ValidHelper, ValidForm, ValidAssign, IsLet, Outside, NoMod, BodiesNoMod, TailNoMod, BindingNoMod, BindingsNoMod, HelperNoMod, HelpersNoMod, FormNoMod}
-use Rattle.records.specs.Read.{Zone, Plain, InBinding, InMod, Context, Input, Fault, malformed, over-limit, Read, done, refused, Reader, _>>=_, _>>_, ret, check, times, deeper, in-lambda, in-zone, next, bytes, choose, marked, loc, name, raw-field, integer, up-to, with-loc, keyword, hint, count, sexp-rule, cons-rule, sexp-at, sexp, noted, note, Readers, kind-of, binding-zone, in-bindings, pattern-after, pattern-of, binding, let-of, tail-after, call-tail, body-rule, helper-rule, form-rule, rules, readers, assign-of, whole, left-over, read-whole, counted, shortest, at-most, optional-loc}
+use Rattle.records.specs.Read.{Zone, Plain, InBinding, InMod, Context, Input, Fault, malformed, over-limit, Read, done, refused, Reader, _>>=_, _>>_, ret, check, times, deeper, in-lambda, in-zone, next, bytes, choose, marked, loc, name, raw-field, integer, up-to, with-loc, keyword, hint, count, sexp-rule, cons-rule, sexp-at, sexp, noted, note, Readers, kind-of, binding-zone, in-bindings, pattern-after, pattern-of, binding, let-of, tail-after, call-tail, body-rule, helper-rule, form-rule, rules, readers, assign-of, whole, left-over, read-whole, counted, shortest, at-most, optional-loc, from-first}
 
 -- the context of a record that stands at p
 abbrev pub context : ℕ → ℕ → ℕ → Zone → Context
@@ -169,7 +169,7 @@ module _ {n k : ℕ} {z : Zone} where
   reads-bytes w {l} q = rw q at (reads-length l)
 
   reads-loc : {l : Loc} → ValidLoc l → Quiet n k z loc l l
-  reads-loc q = reads-bytes loc-width q
+  reads-loc q = reads-bytes loc-width (q .width)
 
   reads-counted : (m : Bytes) → Quiet n k z (counted 1) (number-field 1 (length m) ++ m) m
   unfolding counted number-field
@@ -215,12 +215,12 @@ module _ {n k : ℕ} {z : Zone} where
 
 module _ {A : Type 0} {Q : Type 0} {n k : ℕ} {z : Zone} {bs : Bytes} {a : A} where
   -- the record of a mark
-  reads-marked : (es : List (String × Reader A)) (s : String) → length (ascii s) ≡ 2 → Reads Q n k z (choose (ascii s) es) bs a → Reads Q n k z (marked es) (ascii s ++ bs) a
+  reads-marked : (es : List (String × Reader A)) (s : String) → length (ascii s) ≡ mark-width → Reads Q n k z (choose (ascii s) es) bs a → Reads Q n k z (marked es) (ascii s ++ bs) a
   unfolding marked
   reads-marked es s q t = record { reads = λ p i more e. all .reads (i .offset) i more e }
     where
-      all : Reads Q n k z (bytes 2 >>= λ x. choose x es) (ascii s ++ bs) a
-      all = reads-bind _ (reads-bytes 2 q) t
+      all : Reads Q n k z (bytes mark-width >>= λ x. choose x es) (ascii s ++ bs) a
+      all = reads-bind _ (reads-bytes mark-width q) t
 
 module _ {n k : ℕ} {z : Zone} where
   reads-sexp-rule : (d : ℕ) (cons : Reader Sexp)
@@ -265,7 +265,7 @@ unfolding to-bodies bodies-list
 bodies-same []ᵇ = refl
 bodies-same (b ∷ᵇ bs) = ap (λ (x : Bodies). b ∷ᵇ x) (bodies-same bs)
 
-bindings-same : (bs : Bindings) → to-bindings (list-of bs) ≡ bs
+pub bindings-same : (bs : Bindings) → to-bindings (list-of bs) ≡ bs
 unfolding to-bindings list-of
 bindings-same []ᵍ = refl
 bindings-same (b ∷ᵍ bs) = ap (λ (x : Bindings). b ∷ᵍ x) (bindings-same bs)

@@ -5,10 +5,11 @@ use native.Mathlib.Omega.{arith}
 use lib.ListN.{length}
 use borrow.Author.Tests.{le-leb, lt-leb}
 use Rattle.names.specs.Names.{Bytes}
+use Rattle.names.specs.Refusals.{place-at}
 use Rattle.records.specs.declared.Scan.{Scan}
 use Rattle.records.specs.Records.{Kind, Assign}
 use Rattle.records.specs.Read.{Zone, Plain, InBinding, InMod, Context, Input, refused, Reader, over-limit, fault-number, deeper, in-lambda, in-zone, in-bindings, kind-of, more-levels, binding-zone, note, noted}
-use Rattle.records.specs.Scan.{mod-number, mod-offset, scan-of, input-at, refusal, below, below-lambda, in-zone-of, Comes}
+use Rattle.records.specs.Scan.{mod-number, mod-offset, scan-of, input-at, refused-scan, below, below-lambda, in-zone-of, Comes}
 use Rattle.records.proofs.Scans.{scan, by-number, going, staying, number-back}
 
 -- the levels that a let takes more
@@ -56,20 +57,20 @@ module _ {A : Type 0} (m : Reader A) {x : Context} {s : Bytes} {c : Scan} where
   unfolding deeper
   comes-deeper n l h = moved (deeper n m) (below n x) refl (λ i. rw (le-leb n (x .room) l, deeper)) h
 
-  pub comes-shallow : (n : ℕ) → x .room < n → c .number ≡ 0 → Comes (deeper n m) x s c (refusal (length s) 3 (x .mark))
+  pub comes-shallow : (n : ℕ) → x .room < n → c .refusal .number ≡ 0 → Comes (deeper n m) x s c (refused-scan (length s) 3 (place-at (x .mark)))
   unfolding deeper scan-of fault-number
   comes-shallow n l z =
-      let e : deeper n m x (input-at (x .mark) s c) ≡ refused over-limit (x .mark) = rw (lt-leb n (x .room) l, deeper) in
+      let e : deeper n m x (input-at (x .mark) s c) ≡ refused over-limit (place-at (x .mark)) = rw (lt-leb n (x .room) l, deeper) in
       record { there = sym (going (deeper n m) x s c z ∙ ap (scan-of (x .mark) (length s) c) e); within = omega arith }
 
   pub comes-in-lambda : {r : Scan} → 1 ≤ x .lambdas → Comes m (below-lambda x) s c r → Comes (in-lambda m) x s c r
   unfolding in-lambda
   comes-in-lambda l h = moved (in-lambda m) (below-lambda x) refl (λ i. rw (le-leb 1 (x .lambdas) l, in-lambda)) h
 
-  pub comes-no-lambda : x .lambdas < 1 → c .number ≡ 0 → Comes (in-lambda m) x s c (refusal (length s) 3 (x .mark))
+  pub comes-no-lambda : x .lambdas < 1 → c .refusal .number ≡ 0 → Comes (in-lambda m) x s c (refused-scan (length s) 3 (place-at (x .mark)))
   unfolding in-lambda scan-of fault-number
   comes-no-lambda l z =
-      let e : in-lambda m x (input-at (x .mark) s c) ≡ refused over-limit (x .mark) = rw (lt-leb 1 (x .lambdas) l, in-lambda) in
+      let e : in-lambda m x (input-at (x .mark) s c) ≡ refused over-limit (place-at (x .mark)) = rw (lt-leb 1 (x .lambdas) l, in-lambda) in
       record { there = sym (going (in-lambda m) x s c z ∙ ap (scan-of (x .mark) (length s) c) e); within = omega arith }
 
   pub comes-in-zone : {r : Scan} (z : Zone) → Comes m (in-zone-of z x) s c r → Comes (in-zone z m) x s c r
@@ -87,7 +88,7 @@ module _ (x : Context) (s : Bytes) (c : Scan) (l : c .at ≤ length s) where
   note-kept q = record {
     there = by-number c
         (λ z. let e : c .at ≡ x .mark + c .at - x .mark = omega arith in
-        ap (λ (n : ℕ). scan n (c .number) (c .place) (c .first)) e ∙ ap (scan _ (c .number) (c .place)) (sym (ap mod-number q ∙ number-back (c .first))) ∙ sym (going note x s c z))
+        ap (λ (n : ℕ). scan n (c .refusal) (c .first)) e ∙ ap (scan _ (c .refusal)) (sym (ap mod-number q ∙ number-back (c .first))) ∙ sym (going note x s c z))
         (λ z. sym (staying note x s c z));
     within = l;
   }
@@ -100,7 +101,7 @@ module _ (x : Context) (s : Bytes) (c : Scan) (l : c .at ≤ length s) where
   unfolding noted
   note-inside q = note-kept (rw (q, noted))
 
-  pub note-refused : (c .number ≡ 0 → ⊥) → Comes note x s c c
+  pub note-refused : (c .refusal .number ≡ 0 → ⊥) → Comes note x s c c
   note-refused z = record { there = sym (staying note x s c z); within = l }
 
   pub note-later : x .zone ≡ InBinding → (c .first ≡ 0 → ⊥) → Comes note x s c c
@@ -111,11 +112,11 @@ module _ (x : Context) (s : Bytes) (c : Scan) (l : c .at ≤ length s) where
       go zero e = absurd (h e)
       go (suc p) e = rw (e, noted)
 
-  pub note-first : x .zone ≡ InBinding → c .number ≡ 0 → c .first ≡ 0 → Comes note x s c (scan (c .at) (c .number) (c .place) (x .mark + 1))
+  pub note-first : x .zone ≡ InBinding → c .refusal .number ≡ 0 → c .first ≡ 0 → Comes note x s c (scan (c .at) (c .refusal) (x .mark + 1))
   unfolding note input-at scan-of noted mod-offset mod-number
   note-first q z f = record {
     there = let e : c .at ≡ x .mark + c .at - x .mark = omega arith in
         let first : x .mark + 1 ≡ mod-number (noted (x .zone) (mod-offset (c .first)) (x .mark)) = rw (q, f, noted) (omega arith) in
-        ap (λ (n : ℕ). scan n (c .number) (c .place) (x .mark + 1)) e ∙ ap (scan _ (c .number) (c .place)) first ∙ sym (going note x s c z);
+        ap (λ (n : ℕ). scan n (c .refusal) (x .mark + 1)) e ∙ ap (scan _ (c .refusal)) first ∙ sym (going note x s c z);
     within = l;
   }

@@ -1,30 +1,32 @@
 -- The number of records of each kind of record, from the ends of its fields and the counts of its children. Assumes nothing.
-use mathlib.Core.Path.{_≡_, refl, ap, subst, _∙_}
+use mathlib.Core.Path.{_≡_, refl, ap, sym, subst, _∙_}
 use mathlib.Core.List.{List, [], _∷_, _++_, flatten}
 use Prim.Native.Nat.{ℕ, zero, suc, _+_, _≤_, _<_}
 use Prim.Native.String.{String}
-use native.Mathlib.Nat.{div-one}
 use native.Mathlib.Omega.{arith}
 use lib.ListN.{length, take, drop, length-append}
-use Rattle.names.specs.Names.{Bytes, ascii, same, number-field, name-field}
+use Rattle.names.specs.Names.{Bytes, ascii, same, name-field}
 use Rattle.names.specs.Segments.{At}
-use Rattle.names.proofs.Fields.{number-field-length}
-use Rattle.names.proofs.Places.{at-left, at-right}
+use Rattle.names.proofs.Places.{at-left, at-place}
 use Rattle.records.specs.declared.Family.{Family}
 use Rattle.records.specs.declared.Family.the-variants.{Body as a-body, Binding as a-binding, Helper as a-helper, Form as a-form}
 use Rattle.records.specs.Depth.{depth, bodies-depth, tail-depth, binding-depth, bindings-depth, helper-depth, helpers-depth, form-depth}
 use Rattle.records.specs.Limits.{level-limit, cons-limit, lambda-limit}
-use Rattle.records.specs.Records.{loc-width, integer-width, byte, integer-field, record-bytes, Loc, Kind, kind-field, Sexp, SN, SC, SI, SQ, SA, sexp-bytes, Pattern, Name, Complex, pattern-field, Body, BL, BQ, BV, BC, BM, BF, body-bytes, Bodies, bodies-bytes, bodies-count, Tail, no-tail, tail, tail-bytes, Binding, BB, binding-bytes, Bindings, bindings-bytes, bindings-count, Helper, HC, HM, HD, HN, HR, helper-bytes, Helpers, helpers-bytes, helpers-count, Form, CF, form-bytes}
-use Rattle.records.specs.Scan.{mark-index, sexp-marks, body-marks, helper-marks}
+use Rattle.records.specs.Records.{mark-width, loc-width, byte, record-bytes, Loc, Kind, kind-field, Sexp, sexp-bytes, Pattern, Name, Complex, pattern-field, Body, BL, BQ, BV, BC, BM, BF, body-bytes, Bodies, bodies-bytes, bodies-count, Tail, no-tail, tail, tail-bytes, Binding, BB, binding-bytes, Bindings, bindings-bytes, bindings-count, Helper, HC, HM, HD, HN, HR, helper-bytes, Helpers, helpers-bytes, helpers-count, Form, CF, form-bytes}
+use Rattle.records.specs.Scan.{mark-index, body-marks, helper-marks}
 use Rattle.records.specs.Valid.{SexpFields, cons-depth, ValidPattern, BodyFields, BodiesFields, TailFields, BindingFields, BindingsFields, HelperFields, HelpersFields, FormFields, lambda-depth, bodies-lambda-depth, tail-lambda-depth, binding-lambda-depth, bindings-lambda-depth, helper-lambda-depth, helpers-lambda-depth, form-lambda-depth}
 use Rattle.records.proofs.RecordLaws.{index-bound}
 use Rattle.records.specs.declared.Counted.{Counted}
 use Rattle.records.specs.Count.{sexp-records, pattern-records, body-records, bodies-records, tail-records, binding-records, bindings-records, helper-records, helpers-records, form-records, total, no-records, many-part, tail-part, named-part, Counts, Begun, Adds}
-use Rattle.records.specs.Parts.{Part, family-part, sexp-part, fixed-part, name-part, integer-part, raw-part, keyword-part, hint-part, pattern-part, Past}
-use Rattle.records.specs.Views.{mark-width}
+use Rattle.records.specs.Parts.{Part, family-part, sexp-part, fixed-part, name-part, raw-part, keyword-part, hint-part, pattern-part, Past}
+use Rattle.records.specs.Views.{SexpAt, nil-at, pair-at, integer-at, text-at, atom-at, SeesSexp}
+use Rattle.records.specs.declared.NameView.{NameView}
+use Rattle.records.specs.declared.SexpView.{SexpView}
+use Rattle.records.specs.declared.SexpView.the-variants.{Nil, Pair, Unknown}
+use Rattle.records.proofs.AnySexp.{Leaf, integer, text, name, leaf-places, unseen}
 use Rattle.records.proofs.Lists.{listed-bodies, listed-bindings, listed-helpers}
 use Rattle.records.proofs.Runs.{counted, bytes-of, records-of, begins, ended, over, past, joins, past-adds, begun-past, then, adds-listed}
-use Rattle.records.proofs.Views.{ByteAt, byte-length, kind-length}
+use Rattle.records.proofs.Views.{ByteAt, byte-is, byte-length, kind-length, first-of, rest-of}
 
 -- r has the length and the number of records of t
 abbrev pub Told : (p : Part) → (p .0 → ℕ) → Bytes → Counted → p .0 → Type 0
@@ -34,14 +36,6 @@ Told p n s r t = p .2 t → At s 0 (p .1 t) → (r .end ≡ length (p .1 t)) × 
 long : (m : String) (fs : List Bytes) → length (ascii m) ≡ mark-width → mark-width ≤ length (record-bytes m fs)
 unfolding record-bytes
 long m fs q = omega (arith, length-append (ascii m) (flatten fs))
-
-pub sexp-long : (t : Sexp) → mark-width ≤ length (sexp-bytes t)
-unfolding ascii sexp-bytes
-sexp-long (SN l) = long "SN" _ refl
-sexp-long (SC l h t) = long "SC" _ refl
-sexp-long (SI l v) = long "SI" _ refl
-sexp-long (SQ l q n) = long "SQ" _ refl
-sexp-long (SA l n) = long "SA" _ refl
 
 pub family-long : (f : Family) (t : family-part f .0) → mark-width ≤ length (family-part f .1 t)
 unfolding ascii body-bytes binding-bytes helper-bytes form-bytes
@@ -65,33 +59,17 @@ too-few h l = record { within = omega arith; few = omega arith; counts = λ t v 
 
 -- the mark that s starts with
 module _ {s : Bytes} (m : String) (fs : List Bytes) (ms : List String) (k : ℕ) where
-  mark-there : length (ascii m) ≡ 2 → mark-index (ascii m) ms ≡ k → At s 0 (record-bytes m fs) → mark-index (take 2 (drop 0 s)) ms ≡ k
+  mark-there : length (ascii m) ≡ mark-width → mark-index (ascii m) ms ≡ k → At s 0 (record-bytes m fs) → mark-index (take mark-width (drop 0 s)) ms ≡ k
   unfolding record-bytes
   mark-there q e a =
       let w = at-left (ascii m) (flatten fs) a .there in
-      let x : take 2 (drop 0 s) ≡ ascii m = rw q at w in
+      let x : take mark-width (drop 0 s) ≡ ascii m = rw q at w in
       ap (λ (y : Bytes). mark-index y ms) x ∙ e
-
-module _ {s : Bytes} {at start count : ℕ} where
-  -- an integer is a length, and so many bytes
-  pub integer-past : Past (fixed-part integer-width) s at start → ByteAt s at count → {r : ℕ} → Past (fixed-part count) s start r → Past integer-part s at r
-  unfolding integer-field number-field byte
-  integer-past x b {r} y = record {
-    within = y .within;
-    onward = omega (arith, x .onward, y .onward);
-    past = λ v w a.
-        let f = number-field integer-width (length v) in
-        let e = x .past f (number-field-length integer-width (length v)) (at-left f v a) in
-        let n : count ≡ length v = b _ (at-left f v a) ∙ div-one (length v) in
-        let c : At s start v = rw e (at-right f v a) in
-        let z = y .past v (rw n) c in
-        omega (arith, e, z, length-append f v);
-  }
 
 -- what the byte before a pattern or a tail is
 tag-is : {s : Bytes} {at tag : ℕ} → ByteAt s at tag → (k : ℕ) (bs : Bytes) → At s at (k ∷ bs) → tag ≡ k
 unfolding byte
-tag-is b k bs a = b k (at-left (k ∷ []) bs a)
+tag-is b k bs a = byte-is b k (at-left (k ∷ []) bs a)
 
 module _ {s : Bytes} {c : Counted} {at tag : ℕ} (b : ByteAt s (c .end) tag) (x : Past (fixed-part 1) s (c .end) at) where
   pub name-adds : {end : ℕ} → Begun s c → tag ≡ 0 → Past name-part s at end → Adds pattern-part pattern-records s c (counted (c .count) end)
@@ -135,24 +113,7 @@ named-adds {c} {raw} g x y = record {
   adds = λ t v a. then {c = c} x (past-adds (begun-past g x) y) (t .0) (t .1) (v .0) (v .1) a;
 }
 
--- P of every S record whose mark has that place among the marks
-unfoldable pub SexpOf : ℕ → (Sexp → Type 0) → Type 0
-SexpOf zero P = (l : Loc) → P (SN l)
-SexpOf (suc zero) P = (l : Loc) (h t : Sexp) → P (SC l h t)
-SexpOf (suc (suc zero)) P = (l : Loc) (v : Bytes) → P (SI l v)
-SexpOf (suc (suc (suc zero))) P = (l : Loc) (q : ℕ) (n : Bytes) → P (SQ l q n)
-SexpOf (suc (suc (suc (suc zero)))) P = (l : Loc) (n : Bytes) → P (SA l n)
-SexpOf (suc (suc (suc (suc (suc k))))) P = Unit {0}
-
-pub sexp-by-mark : {s : Bytes} {k : ℕ} (P : Sexp → Type 0) → k ≡ mark-index (take 2 (drop 0 s)) sexp-marks → SexpOf k P → (t : Sexp) → At s 0 (sexp-bytes t) → P t
-unfolding SexpOf sexp-bytes ascii mark-index same
-sexp-by-mark P q f (SN l) a = subst (λ (j : ℕ). SexpOf j P) (q ∙ mark-there "SN" _ sexp-marks 0 refl refl a) f l
-sexp-by-mark P q f (SC l h t) a = subst (λ (j : ℕ). SexpOf j P) (q ∙ mark-there "SC" _ sexp-marks 1 refl refl a) f l h t
-sexp-by-mark P q f (SI l v) a = subst (λ (j : ℕ). SexpOf j P) (q ∙ mark-there "SI" _ sexp-marks 2 refl refl a) f l v
-sexp-by-mark P q f (SQ l b n) a = subst (λ (j : ℕ). SexpOf j P) (q ∙ mark-there "SQ" _ sexp-marks 3 refl refl a) f l b n
-sexp-by-mark P q f (SA l n) a = subst (λ (j : ℕ). SexpOf j P) (q ∙ mark-there "SA" _ sexp-marks 4 refl refl a) f l n
-
--- the same for the B records, and for the H records
+-- P of every B record whose mark has that place among the marks; the same for the H records
 unfoldable pub BodyOf : ℕ → (Body → Type 0) → Type 0
 BodyOf zero P = (k : Kind) (l : Loc) (w h : Bytes) (bs : Bindings) (b : Body) → P (BL k l w h bs b)
 BodyOf (suc zero) P = (x : Sexp) → P (BQ x)
@@ -162,7 +123,7 @@ BodyOf (suc (suc (suc (suc zero)))) P = (l : Loc) (f : Form) → P (BM l f)
 BodyOf (suc (suc (suc (suc (suc zero))))) P = (l : Loc) (w : Bytes) (ca : Sexp) (c : Body) (a : Sexp) (b : Body) → P (BF l w ca c a b)
 BodyOf (suc (suc (suc (suc (suc (suc k)))))) P = Unit {0}
 
-pub body-by-mark : {s : Bytes} {k : ℕ} (P : Body → Type 0) → k ≡ mark-index (take 2 (drop 0 s)) body-marks → BodyOf k P → (t : Body) → At s 0 (body-bytes t) → P t
+pub body-by-mark : {s : Bytes} {k : ℕ} (P : Body → Type 0) → k ≡ mark-index (take mark-width (drop 0 s)) body-marks → BodyOf k P → (t : Body) → At s 0 (body-bytes t) → P t
 unfolding BodyOf body-bytes ascii mark-index same
 body-by-mark P q f (BL k l w h bs b) e = subst (λ (j : ℕ). BodyOf j P) (q ∙ mark-there "BL" _ body-marks 0 refl refl e) f k l w h bs b
 body-by-mark P q f (BQ x) e = subst (λ (j : ℕ). BodyOf j P) (q ∙ mark-there "BQ" _ body-marks 1 refl refl e) f x
@@ -179,7 +140,7 @@ HelperOf (suc (suc (suc zero))) P = (l : Loc) (n r : Bytes) (hs : Helpers) → P
 HelperOf (suc (suc (suc (suc zero)))) P = (l : Loc) (n r : Bytes) → P (HR l n r)
 HelperOf (suc (suc (suc (suc (suc k))))) P = Unit {0}
 
-pub helper-by-mark : {s : Bytes} {k : ℕ} (P : Helper → Type 0) → k ≡ mark-index (take 2 (drop 0 s)) helper-marks → HelperOf k P → (t : Helper) → At s 0 (helper-bytes t) → P t
+pub helper-by-mark : {s : Bytes} {k : ℕ} (P : Helper → Type 0) → k ≡ mark-index (take mark-width (drop 0 s)) helper-marks → HelperOf k P → (t : Helper) → At s 0 (helper-bytes t) → P t
 unfolding HelperOf helper-bytes ascii mark-index same
 helper-by-mark P q f (HC l n r b) e = subst (λ (j : ℕ). HelperOf j P) (q ∙ mark-there "HC" _ helper-marks 0 refl refl e) f l n r b
 helper-by-mark P q f (HM l n r a c) e = subst (λ (j : ℕ). HelperOf j P) (q ∙ mark-there "HM" _ helper-marks 1 refl refl e) f l n r a c
@@ -187,30 +148,38 @@ helper-by-mark P q f (HD l i n r a b) e = subst (λ (j : ℕ). HelperOf j P) (q 
 helper-by-mark P q f (HN l n r hs) e = subst (λ (j : ℕ). HelperOf j P) (q ∙ mark-there "HN" _ helper-marks 3 refl refl e) f l n r hs
 helper-by-mark P q f (HR l n r) e = subst (λ (j : ℕ). HelperOf j P) (q ∙ mark-there "HR" _ helper-marks 4 refl refl e) f l n r
 
--- each kind of S record, its mark and L behind it
-module _ {s : Bytes} {at : ℕ} (x : Past (fixed-part loc-width) s mark-width at) where
-  pub nil-told : (l : Loc) → Told sexp-part sexp-records s (counted 1 at) (SN l)
-  unfolding ascii sexp-bytes record-bytes flatten SexpFields sexp-records bytes-of records-of
-  nil-told l v a = ended (past x l (v .0) (begins (ascii "SN") ((l, 0) ∷ []) refl a)) (omega arith)
+-- each kind of S record, by its view
+module _ {s : Bytes} where
+  pub nil-counts : {e : ℕ} → SeesSexp s (Nil e) → Counts sexp-part sexp-records s (counted 1 e)
+  unfolding sexp-records
+  nil-counts {e} x = let p = x .places in record { within = p .1; few = p .0; counts = λ t v a. go (x .sees t (v .0) a) }
+    where
+      go : {t : Sexp} → SexpAt s (Nil e) t → (e ≡ length (sexp-bytes t)) × (1 ≡ sexp-records t)
+      go (nil-at q) = (q, refl)
 
-  pub cons-told : {c r : Counted} → Adds sexp-part sexp-records s (counted 1 at) c → Adds sexp-part sexp-records s c r → (l : Loc) (h t : Sexp) → Told sexp-part sexp-records s r (SC l h t)
-  unfolding ascii sexp-bytes record-bytes flatten SexpFields cons-depth sexp-records bytes-of records-of
-  cons-told y z l h t v a =
-      let d : cons-depth h ≤ cons-limit = omega (arith, v .1) in
-      let e : cons-depth t ≤ cons-limit = omega (arith, v .1) in
-      ended (over z t (v .0 .2, e) (over y h (v .0 .1, d) (past x l (v .0 .0) (begins (ascii "SC") ((l, 0) ∷ (sexp-bytes h, sexp-records h) ∷ (sexp-bytes t, sexp-records t) ∷ []) refl a)))) (omega arith)
+  pub leaf-counts : {n : NameView} {v : SexpView} → Leaf n v → SeesSexp s v → Counts sexp-part sexp-records s (counted 1 (n .end))
+  unfolding sexp-records
+  leaf-counts {n} {v} k x =
+      let p = leaf-places k (x .places) in
+      record { within = p .within; few = omega (arith, p .moved, p .forward); counts = λ t v a. go k (x .sees t (v .0) a) }
+    where
+      go : {v : SexpView} {t : Sexp} → Leaf n v → SexpAt s v t → (n .end ≡ length (sexp-bytes t)) × (1 ≡ sexp-records t)
+      go integer (integer-at h) = (h .past, refl)
+      go text (text-at h) = (h .past, refl)
+      go name (atom-at h) = (h .past, refl)
 
-  pub integer-told : {end : ℕ} → Past integer-part s at end → (l : Loc) (i : Bytes) → Told sexp-part sexp-records s (counted 1 end) (SI l i)
-  unfolding ascii sexp-bytes record-bytes flatten SexpFields sexp-records bytes-of records-of
-  integer-told y l i v a = ended (past y i (v .0 .1) (past x l (v .0 .0) (begins (ascii "SI") ((l, 0) ∷ (integer-field i, 0) ∷ []) refl a))) (omega arith)
+  pub pair-counts : {p : ℕ} {c r : Counted} → SeesSexp s (Pair p) → Adds sexp-part sexp-records s (counted 1 p) c → Adds sexp-part sexp-records s c r → Counts sexp-part sexp-records s r
+  unfolding SexpFields cons-depth sexp-records
+  pair-counts {p} {c} {r} x y z = record { within = z .within; few = z .few; counts = λ t v a. go (v .0) (v .1) (x .sees t (v .0) a) }
+    where
+      go : {t : Sexp} → SexpFields t → cons-depth t ≤ cons-limit → SexpAt s (Pair p) t → (r .end ≡ length (sexp-bytes t)) × (r .count ≡ sexp-records t)
+      go f d (pair-at {h = h} {t = u} k w) =
+          let i = y .adds h (f .1, omega arith) (first-of k) in
+          let j = z .adds u (f .2, omega arith) (at-place (c .end) (sym (i .0)) (first-of (rest-of k))) in
+          (omega (arith, i .0, j .0), omega (arith, i .1, j .1))
 
-  pub quoted-told : {name end : ℕ} → Past (fixed-part 1) s at name → Past name-part s name end → (l : Loc) (q : ℕ) (n : Bytes) → Told sexp-part sexp-records s (counted 1 end) (SQ l q n)
-  unfolding ascii sexp-bytes record-bytes flatten SexpFields sexp-records bytes-of records-of
-  quoted-told y z l q n v a = ended (past z n (v .0 .2) (past y (byte q) (byte-length q) (past x l (v .0 .0) (begins (ascii "SQ") ((l, 0) ∷ (byte q, 0) ∷ (name-field n, 0) ∷ []) refl a)))) (omega arith)
-
-  pub atom-told : {end : ℕ} → Past name-part s at end → (l : Loc) (n : Bytes) → Told sexp-part sexp-records s (counted 1 end) (SA l n)
-  unfolding ascii sexp-bytes record-bytes flatten SexpFields sexp-records bytes-of records-of
-  atom-told y l n v a = ended (past y n (v .0 .1) (past x l (v .0 .0) (begins (ascii "SA") ((l, 0) ∷ (name-field n, 0) ∷ []) refl a))) (omega arith)
+  pub no-counts : SeesSexp s Unknown → Counts sexp-part sexp-records s (counted 0 (length s))
+  no-counts x = record { within = omega arith; few = omega arith; counts = λ t v a. absurd (unseen (x .sees t (v .0) a)) }
 
 -- a count, and the bodies, bindings or helpers that a record has
 abbrev counted-bodies : Part
@@ -240,7 +209,7 @@ module _ {s : Bytes} where
   unfolding ascii byte body-bytes record-bytes flatten BodyFields depth lambda-depth body-records bytes-of records-of
   let-told xk xl xw xh y z k l w h bs b (f, d, ld) a =
       let o = begins (ascii "BL") ((kind-field k, 0) ∷ (l, 0) ∷ (w, 0) ∷ (h, 0) ∷ (byte (bindings-count bs) ++ bindings-bytes bs, bindings-records bs) ∷ (body-bytes b, body-records b) ∷ []) refl a in
-      let fields = past xh h (f .2) (past xw w (f .1) (past xl l (f .0) (past xk (kind-field k) (kind-length k) o))) in
+      let fields = past xh h (f .2) (past xw w (f .1) (past xl l (f .0 .width) (past xk (kind-field k) (kind-length k) o))) in
       ended (over z b (f .5, omega arith, omega arith) (over (bindings-adds y) bs (f .4, omega arith, omega arith) fields)) (omega arith)
 
   pub quote-told : {r : Counted} → Adds sexp-part sexp-records s (counted 1 mark-width) r → (e : Sexp) → Told (family-part a-body) body-records s r (BQ e)
@@ -257,11 +226,11 @@ module _ {s : Bytes} {at : ℕ} (x : Past (fixed-part loc-width) s mark-width at
   unfolding ascii byte body-bytes record-bytes flatten BodyFields depth lambda-depth body-records bytes-of records-of
   call-told y z l bs t (f, d, ld) a =
       let o = begins (ascii "BC") ((l, 0) ∷ (byte (bodies-count bs) ++ bodies-bytes bs, bodies-records bs) ∷ (tail-bytes t, tail-records t) ∷ []) refl a in
-      ended (over z t (f .3, omega arith, omega arith) (over (bodies-adds y) bs (f .2, omega arith, omega arith) (past x l (f .0) o))) (omega arith)
+      ended (over z t (f .3, omega arith, omega arith) (over (bodies-adds y) bs (f .2, omega arith, omega arith) (past x l (f .0 .width) o))) (omega arith)
 
   pub mod-told : {r : Counted} → Adds (family-part a-form) form-records s (counted 1 at) r → (l : Loc) (e : Form) → Told (family-part a-body) body-records s r (BM l e)
   unfolding ascii body-bytes record-bytes flatten BodyFields depth lambda-depth body-records bytes-of records-of
-  mod-told y l e (f, d, ld) a = ended (over y e (f .1, omega arith, omega arith) (past x l (f .0) (begins (ascii "BM") ((l, 0) ∷ (form-bytes e, form-records e) ∷ []) refl a))) (omega arith)
+  mod-told y l e (f, d, ld) a = ended (over y e (f .1, omega arith, omega arith) (past x l (f .0 .width) (begins (ascii "BM") ((l, 0) ∷ (form-bytes e, form-records e) ∷ []) refl a))) (omega arith)
 
   pub lambda-told : {next : ℕ} {c d e r : Counted} → Past keyword-part s at next → Adds sexp-part sexp-records s (counted 1 next) c → Adds (family-part a-body) body-records s c d
       → Adds sexp-part sexp-records s d e → Adds (family-part a-body) body-records s e r
@@ -269,7 +238,7 @@ module _ {s : Bytes} {at : ℕ} (x : Past (fixed-part loc-width) s mark-width at
   unfolding ascii body-bytes record-bytes flatten BodyFields depth lambda-depth body-records bytes-of records-of
   lambda-told xw y1 y2 y3 y4 l w ca cb ar b (f, dp, ld) a =
       let o = begins (ascii "BF") ((l, 0) ∷ (w, 0) ∷ (sexp-bytes ca, sexp-records ca) ∷ (body-bytes cb, body-records cb) ∷ (sexp-bytes ar, sexp-records ar) ∷ (body-bytes b, body-records b) ∷ []) refl a in
-      let captures = over y2 cb (f .3, omega arith, omega arith) (over y1 ca (f .2) (past xw w (f .1) (past x l (f .0) o))) in
+      let captures = over y2 cb (f .3, omega arith, omega arith) (over y1 ca (f .2) (past xw w (f .1) (past x l (f .0 .width) o))) in
       ended (over y4 b (f .5, omega arith, omega arith) (over y3 ar (f .4) captures)) (omega arith)
 
   -- a BB
@@ -278,7 +247,7 @@ module _ {s : Bytes} {at : ℕ} (x : Past (fixed-part loc-width) s mark-width at
   unfolding ascii binding-bytes record-bytes flatten BindingFields binding-depth binding-lambda-depth binding-records bytes-of records-of
   binding-told xn y z (BB l nl p b) (f, d, ld) a =
       let o = begins (ascii "BB") ((l, 0) ∷ (nl, 0) ∷ (pattern-field p, pattern-records p) ∷ (body-bytes b, body-records b) ∷ []) refl a in
-      ended (over z b (f .3, d, ld) (over y p (f .2) (past xn nl (f .1) (past x l (f .0) o)))) (omega arith)
+      ended (over z b (f .3, d, ld) (over y p (f .2) (past xn nl (f .1 .width) (past x l (f .0 .width) o)))) (omega arith)
 
   -- each kind of H record
   pub constant-told : {c r : Counted} → Adds named-part no-records s (counted 1 at) c → Adds (family-part a-body) body-records s c r
@@ -286,21 +255,21 @@ module _ {s : Bytes} {at : ℕ} (x : Past (fixed-part loc-width) s mark-width at
   unfolding ascii helper-bytes record-bytes flatten HelperFields helper-depth helper-lambda-depth helper-records bytes-of records-of
   constant-told y z l n w b (f, d, ld) a =
       let o = begins (ascii "HC") ((l, 0) ∷ (name-field n, 0) ∷ (w, 0) ∷ (body-bytes b, body-records b) ∷ []) refl a in
-      ended (over z b (f .3, omega arith, omega arith) (over y (n, w) (f .1, f .2) (joins (past x l (f .0) o)))) (omega arith)
+      ended (over z b (f .3, omega arith, omega arith) (over y (n, w) (f .1, f .2) (joins (past x l (f .0 .width) o)))) (omega arith)
 
   pub macro-told : {c e r : Counted} → Adds named-part no-records s (counted 1 at) c → Adds sexp-part sexp-records s c e → Adds (family-part a-form) form-records s e r
       → (l : Loc) (n w : Bytes) (ar : Sexp) (b : Form) → Told (family-part a-helper) helper-records s r (HM l n w ar b)
   unfolding ascii helper-bytes record-bytes flatten HelperFields helper-depth helper-lambda-depth helper-records bytes-of records-of
   macro-told y ya z l n w ar b (f, d, ld) a =
       let o = begins (ascii "HM") ((l, 0) ∷ (name-field n, 0) ∷ (w, 0) ∷ (sexp-bytes ar, sexp-records ar) ∷ (form-bytes b, form-records b) ∷ []) refl a in
-      ended (over z b (f .4, omega arith, omega arith) (over ya ar (f .3) (over y (n, w) (f .1, f .2) (joins (past x l (f .0) o))))) (omega arith)
+      ended (over z b (f .4, omega arith, omega arith) (over ya ar (f .3) (over y (n, w) (f .1, f .2) (joins (past x l (f .0 .width) o))))) (omega arith)
 
   pub function-told : {next : ℕ} {c e r : Counted} → Past (fixed-part 1) s at next → Adds named-part no-records s (counted 1 next) c → Adds sexp-part sexp-records s c e → Adds (family-part a-body) body-records s e r
       → (l : Loc) (i : ℕ) (n w : Bytes) (ar : Sexp) (b : Body) → Told (family-part a-helper) helper-records s r (HD l i n w ar b)
   unfolding ascii helper-bytes record-bytes flatten HelperFields helper-depth helper-lambda-depth helper-records bytes-of records-of
   function-told xi y ya z l i n w ar b (f, d, ld) a =
       let o = begins (ascii "HD") ((l, 0) ∷ (byte i, 0) ∷ (name-field n, 0) ∷ (w, 0) ∷ (sexp-bytes ar, sexp-records ar) ∷ (body-bytes b, body-records b) ∷ []) refl a in
-      let named = over y (n, w) (f .2, f .3) (joins (past xi (byte i) (byte-length i) (past x l (f .0) o))) in
+      let named = over y (n, w) (f .2, f .3) (joins (past xi (byte i) (byte-length i) (past x l (f .0 .width) o))) in
       ended (over z b (f .5, omega arith, omega arith) (over ya ar (f .4) named)) (omega arith)
 
   pub namespace-told : {c r : Counted} → Adds named-part no-records s (counted 1 at) c → Adds (many-part (family-part a-helper)) (total helper-records) s c r
@@ -308,13 +277,13 @@ module _ {s : Bytes} {at : ℕ} (x : Past (fixed-part loc-width) s mark-width at
   unfolding ascii byte helper-bytes record-bytes flatten HelperFields helper-depth helper-lambda-depth helper-records bytes-of records-of
   namespace-told y z l n w hs (f, d, ld) a =
       let o = begins (ascii "HN") ((l, 0) ∷ (name-field n, 0) ∷ (w, 0) ∷ (byte (helpers-count hs) ++ helpers-bytes hs, helpers-records hs) ∷ []) refl a in
-      ended (over (helpers-adds z) hs (f .4, omega arith, omega arith) (over y (n, w) (f .1, f .2) (joins (past x l (f .0) o)))) (omega arith)
+      ended (over (helpers-adds z) hs (f .4, omega arith, omega arith) (over y (n, w) (f .1, f .2) (joins (past x l (f .0 .width) o)))) (omega arith)
 
   pub reference-told : {r : Counted} → Adds named-part no-records s (counted 1 at) r → (l : Loc) (n w : Bytes) → Told (family-part a-helper) helper-records s r (HR l n w)
   unfolding ascii helper-bytes record-bytes flatten HelperFields helper-records bytes-of records-of
   reference-told y l n w (f, d, ld) a =
       let o = begins (ascii "HR") ((l, 0) ∷ (name-field n, 0) ∷ (w, 0) ∷ []) refl a in
-      ended (over y (n, w) (f .1, f .2) (joins (past x l (f .0) o))) (omega arith)
+      ended (over y (n, w) (f .1, f .2) (joins (past x l (f .0 .width) o))) (omega arith)
 
   -- a CF
   pub form-told : {next : ℕ} {c e r : Counted} → Past raw-part s at next → Adds sexp-part sexp-records s (counted 1 next) c → Adds (many-part (family-part a-helper)) (total helper-records) s c e
@@ -322,18 +291,15 @@ module _ {s : Bytes} {at : ℕ} (x : Past (fixed-part loc-width) s mark-width at
   unfolding ascii byte form-bytes record-bytes flatten FormFields form-depth form-lambda-depth form-records bytes-of records-of
   form-told xr ya yh z (CF l w ar hs b) (f, d, ld) a =
       let o = begins (ascii "CF") ((l, 0) ∷ (w, 0) ∷ (sexp-bytes ar, sexp-records ar) ∷ (byte (helpers-count hs) ++ helpers-bytes hs, helpers-records hs) ∷ (body-bytes b, body-records b) ∷ []) refl a in
-      let helpers = over (helpers-adds yh) hs (f .4, omega arith, omega arith) (over ya ar (f .2) (past xr w (f .1) (past x l (f .0) o))) in
+      let helpers = over (helpers-adds yh) hs (f .4, omega arith, omega arith) (over ya ar (f .2) (past xr w (f .1) (past x l (f .0 .width) o))) in
       ended (over z b (f .5, omega arith, omega arith) helpers) (omega arith)
 
 -- an answer for the mark that was found is the answer
 module _ {s : Bytes} {k : ℕ} {r : Counted} where
-  pub sexp-counts : r .end ≤ length s → r .count ≤ r .end → k ≡ mark-index (take 2 (drop 0 s)) sexp-marks → SexpOf k (Told sexp-part sexp-records s r) → Counts sexp-part sexp-records s r
-  sexp-counts w f q h = record { within = w; few = f; counts = λ t v a. sexp-by-mark (Told sexp-part sexp-records s r) q h t a v a }
-
-  pub body-counts : r .end ≤ length s → r .count ≤ r .end → k ≡ mark-index (take 2 (drop 0 s)) body-marks → BodyOf k (Told (family-part a-body) body-records s r) → Counts (family-part a-body) body-records s r
+  pub body-counts : r .end ≤ length s → r .count ≤ r .end → k ≡ mark-index (take mark-width (drop 0 s)) body-marks → BodyOf k (Told (family-part a-body) body-records s r) → Counts (family-part a-body) body-records s r
   body-counts w f q h = record { within = w; few = f; counts = λ t v a. body-by-mark (Told (family-part a-body) body-records s r) q h t a v a }
 
-  pub helper-counts : r .end ≤ length s → r .count ≤ r .end → k ≡ mark-index (take 2 (drop 0 s)) helper-marks → HelperOf k (Told (family-part a-helper) helper-records s r) → Counts (family-part a-helper) helper-records s r
+  pub helper-counts : r .end ≤ length s → r .count ≤ r .end → k ≡ mark-index (take mark-width (drop 0 s)) helper-marks → HelperOf k (Told (family-part a-helper) helper-records s r) → Counts (family-part a-helper) helper-records s r
   helper-counts w f q h = record { within = w; few = f; counts = λ t v a. helper-by-mark (Told (family-part a-helper) helper-records s r) q h t a v a }
 
 -- a place that is none of the six, or of the five

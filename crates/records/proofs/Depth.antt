@@ -9,7 +9,8 @@ use native.Mathlib.Omega.{arith}
 use lib.Dec.{leb, eqb, leb→le}
 use lib.ListN.{length}
 use Rattle.names.specs.Names.{Bytes, ascii, same}
-use Rattle.records.specs.Records.{Kind, Parallel, Sequential, Assign, Body, Binding, Helper, Form, to-bodies, to-bindings, to-helpers}
+use Rattle.names.specs.Refusals.{place-at}
+use Rattle.records.specs.Records.{mark-width, Kind, Parallel, Sequential, Assign, Body, Binding, Helper, Form, to-bodies, to-bindings, to-helpers}
 use Rattle.records.specs.Depth.{levels, depth, bodies-depth, tail-depth, binding-depth, bindings-depth, helper-depth, helpers-depth, form-depth}
 use Rattle.records.proofs.Readers.{Any, not-done, same-value, T-of, reads-whole}
 use Rattle.records.proofs.Exact.{bindings-counted}
@@ -48,7 +49,7 @@ module _ {A : Type 0} {P : A → Type 0} {m : Reader A} where
   unfolding check
   gives-check n x ok s = record { gives = λ c i b j q h. go c i b j q ok h }
     where
-      go : (c : Context) (i : Input) (b : A) (j : Input) → c .room ≡ n → (o : Bool) → _≡_ {A = Read A} (elim o [ true ↦ m c i | false ↦ refused x (c .mark) ]) (done b j) → P b
+      go : (c : Context) (i : Input) (b : A) (j : Input) → c .room ≡ n → (o : Bool) → _≡_ {A = Read A} (elim o [ true ↦ m c i | false ↦ refused x (place-at (c .mark)) ]) (done b j) → P b
       go c i b j q true h = s .gives c i b j q h
       go c i b j q false h = absurd (not-done h)
 
@@ -57,7 +58,7 @@ module _ {A : Type 0} {P : A → Type 0} {m : Reader A} where
   gives-deeper n k s = record { gives = λ c i b j q h. go c i b j q (leb k (c .room)) refl h }
     where
       go : (c : Context) (i : Input) (b : A) (j : Input) → c .room ≡ n → (o : Bool) → leb k (c .room) ≡ o
-          → _≡_ {A = Read A} (elim o [ true ↦ m (record { mark = c .mark; room = c .room - k; lambdas = c .lambdas; zone = c .zone }) i | false ↦ refused over-limit (c .mark) ]) (done b j) → P b
+          → _≡_ {A = Read A} (elim o [ true ↦ m (record { mark = c .mark; room = c .room - k; lambdas = c .lambdas; zone = c .zone }) i | false ↦ refused over-limit (place-at (c .mark)) ]) (done b j) → P b
       go c i b j q true e h = s (omega (arith, leb→le k (c .room) (T-of e))) .gives _ i b j (ap (λ (x : ℕ). x - k) q) h
       go c i b j q false e h = absurd (not-done h)
 
@@ -66,7 +67,7 @@ module _ {A : Type 0} {P : A → Type 0} {m : Reader A} where
   gives-in-lambda n s = record { gives = λ c i b j q h. go c i b j q (leb 1 (c .lambdas)) h }
     where
       go : (c : Context) (i : Input) (b : A) (j : Input) → c .room ≡ n → (o : Bool)
-          → _≡_ {A = Read A} (elim o [ true ↦ m (record { mark = c .mark; room = c .room; lambdas = c .lambdas - 1; zone = c .zone }) i | false ↦ refused over-limit (c .mark) ]) (done b j) → P b
+          → _≡_ {A = Read A} (elim o [ true ↦ m (record { mark = c .mark; room = c .room; lambdas = c .lambdas - 1; zone = c .zone }) i | false ↦ refused over-limit (place-at (c .mark)) ]) (done b j) → P b
       go c i b j q true h = s .gives _ i b j q h
       go c i b j q false h = absurd (not-done h)
 
@@ -109,7 +110,7 @@ gives-marked : {A : Type 0} {n : ℕ} {P : A → Type 0} {es : List (String × R
 unfolding marked
 gives-marked {A} {n} {P} {es} alts = record { gives = λ c i b j q h. all .gives _ i b j q h }
   where
-    all : Gives n P (bytes 2 >>= λ x. choose x es)
+    all : Gives n P (bytes mark-width >>= λ x. choose x es)
     all = gives-bind any λ x _. gives-choose x alts
 
 bodies-deepest : (l : List Body) → bodies-depth (to-bodies l) ≡ deepest depth l

@@ -11,11 +11,12 @@ use lib.Dec.{leb, eqb, leb→le, eqb→eq}
 use lib.ListN.{length, length-append, drop}
 use lib.Seq.{drop-append-seam}
 use Rattle.names.specs.Names.{Bytes, ascii, same, number-field, number-of, number-after, name-field}
+use Rattle.names.specs.Refusals.{place-at}
 use Rattle.names.proofs.Same.{same→eq}
 use Rattle.records.specs.Lists.{joined}
 use Rattle.records.specs.Limits.{level-limit, cons-limit, count-limit}
 use Rattle.records.proofs.Readers.{Any, not-done, same-value, same-input, T-of, reads-whole}
-use Rattle.records.specs.Records.{byte, loc-width, raw-width, integer-field, Sexp, SN, SC, SI, SQ, SA, sexp-bytes, record-bytes, Kind, Assign, kind-field, Name, Complex, pattern-field, Body, BL, BQ, BV, BC, BM, BF, body-bytes, bodies-bytes, tail-bytes, no-tail, tail, Binding, BB, binding-bytes, bindings-bytes, Helper, HC, HM, HD, HN, HR, helper-bytes, helpers-bytes, Form, CF, form-bytes, to-bodies, to-bindings, to-helpers, bodies-count, bindings-count, helpers-count}
+use Rattle.records.specs.Records.{mark-width, byte, loc-width, raw-width, integer-field, Sexp, SN, SC, SI, SQ, SA, sexp-bytes, record-bytes, Kind, Assign, kind-field, Name, Complex, pattern-field, Body, BL, BQ, BV, BC, BM, BF, body-bytes, bodies-bytes, tail-bytes, no-tail, tail, Binding, BB, binding-bytes, bindings-bytes, Helper, HC, HM, HD, HN, HR, helper-bytes, helpers-bytes, Form, CF, form-bytes, to-bodies, to-bindings, to-helpers, bodies-count, bindings-count, helpers-count}
 use Rattle.records.specs.Read.{Zone, Context, Input, Fault, malformed, over-limit, Read, done, refused, Reader, _>>=_, ret, refuse, check, times, deeper, in-lambda, in-zone, next, bytes, choose, marked, loc, counted, name, raw-field, integer, at-most, up-to, with-loc, optional-loc, keyword, hint, count, shortest, sexp-rule, cons-rule, sexp-at, sexp, _>>_, note, Readers, kind-of, more-levels, in-bindings, pattern-after, pattern-of, binding, let-of, tail-after, call-tail, body-rule, helper-rule, form-rule, rules, readers, assign-of, whole, read-whole}
 
 -- from i, after the bytes `pre` of the same record, to j stands what f writes of a; a has P; the offset has gone on by what was taken
@@ -53,7 +54,7 @@ module _ {A : Type 0} {P : A → Type 0} {f : A → Bytes} {pre : Bytes} {m : Re
   exact-check n ok e = record { takes = λ c i b j h. go c i b j ok refl h }
     where
       go : (c : Context) (i : Input) (b : A) (j : Input) (o : Bool) → ok ≡ o
-          → _≡_ {A = Read A} (elim o [ true ↦ m c i | false ↦ refused n (c .mark) ]) (done b j) → Taken P f pre i b j
+          → _≡_ {A = Read A} (elim o [ true ↦ m c i | false ↦ refused n (place-at (c .mark)) ]) (done b j) → Taken P f pre i b j
       go c i b j true q h = e q .takes c i b j h
       go c i b j false q h = absurd (not-done h)
 
@@ -62,7 +63,7 @@ module _ {A : Type 0} {P : A → Type 0} {f : A → Bytes} {pre : Bytes} {m : Re
   exact-deeper n e = record { takes = λ c i b j h. go c i b j (leb n (c .room)) h }
     where
       go : (c : Context) (i : Input) (b : A) (j : Input) (o : Bool)
-          → _≡_ {A = Read A} (elim o [ true ↦ m (record { mark = c .mark; room = c .room - n; lambdas = c .lambdas; zone = c .zone }) i | false ↦ refused over-limit (c .mark) ]) (done b j)
+          → _≡_ {A = Read A} (elim o [ true ↦ m (record { mark = c .mark; room = c .room - n; lambdas = c .lambdas; zone = c .zone }) i | false ↦ refused over-limit (place-at (c .mark)) ]) (done b j)
           → Taken P f pre i b j
       go c i b j true h = e .takes _ i b j h
       go c i b j false h = absurd (not-done h)
@@ -72,7 +73,7 @@ module _ {A : Type 0} {P : A → Type 0} {f : A → Bytes} {pre : Bytes} {m : Re
   exact-in-lambda e = record { takes = λ c i b j h. go c i b j (leb 1 (c .lambdas)) h }
     where
       go : (c : Context) (i : Input) (b : A) (j : Input) (o : Bool)
-          → _≡_ {A = Read A} (elim o [ true ↦ m (record { mark = c .mark; room = c .room; lambdas = c .lambdas - 1; zone = c .zone }) i | false ↦ refused over-limit (c .mark) ]) (done b j)
+          → _≡_ {A = Read A} (elim o [ true ↦ m (record { mark = c .mark; room = c .room; lambdas = c .lambdas - 1; zone = c .zone }) i | false ↦ refused over-limit (place-at (c .mark)) ]) (done b j)
           → Taken P f pre i b j
       go c i b j true h = e .takes _ i b j h
       go c i b j false h = absurd (not-done h)
@@ -94,7 +95,7 @@ unfolding next byte
 exact-next = record { takes = λ c i b j h. go c i b j (i .rest) refl h }
   where
     go : (c : Context) (i : Input) (b : ℕ) (j : Input) (r : Bytes) → i .rest ≡ r
-        → _≡_ {A = Read ℕ} (elim r [ [] ↦ refused malformed (c .mark) | x ∷ xs ↦ done x (record { offset = i .offset + 1; rest = xs; first-mod = i .first-mod }) ]) (done b j)
+        → _≡_ {A = Read ℕ} (elim r [ [] ↦ refused malformed (place-at (c .mark)) | x ∷ xs ↦ done x (record { offset = i .offset + 1; rest = xs; first-mod = i .first-mod }) ]) (done b j)
         → Taken Any byte [] i b j
     go c i b j [] e h = absurd (not-done h)
     go c i b j (x ∷ xs) e h = (cc (e, same-value h, ap (λ (l : Input). l .rest) (same-input h)), tt, omega (arith, ap (λ (l : Input). l .offset) (same-input h)))
@@ -188,8 +189,8 @@ exact-marked : {A : Type 0} {P : A → Type 0} {f : A → Bytes} {es : List (Str
 unfolding marked
 exact-marked {A} {P} {f} {es} alts = record { takes = λ c i b j h. all .takes _ i b j h }
   where
-    all : Exact P f [] (bytes 2 >>= λ x. choose x es)
-    all = exact-bind (exact-bytes 2) λ x p. exact-choose x alts
+    all : Exact P f [] (bytes mark-width >>= λ x. choose x es)
+    all = exact-bind (exact-bytes mark-width) λ x p. exact-choose x alts
 
 exact-sexp-rule : (cons : Reader Sexp) → Exact Any sexp-bytes (ascii "SC") cons → Exact Any sexp-bytes [] (sexp-rule cons)
 unfolding sexp-rule sexp-bytes record-bytes flatten

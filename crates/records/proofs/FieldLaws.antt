@@ -9,30 +9,31 @@ use lib.ListN.{length, getD, take, drop, length-drop, length-append}
 use lib.Seq.{take-at, getD-drop, drop-drop}
 use borrow.Author.Tests.{le-leb, lt-leb}
 use Rattle.names.specs.Names.{Bytes, number-of, number-field}
+use Rattle.names.specs.Refusals.{place-at}
 use Rattle.records.specs.declared.Scan.{Scan}
 use Rattle.records.specs.Records.{byte, integer-width}
 use Rattle.records.specs.Read.{Context, Input, Read, done, refused, Fault, malformed, fault-number, Plain, Reader, _>>=_, ret, check, times, next, bytes, counted, at-most, loc, with-loc, optional-loc, integer, shortest}
-use Rattle.records.specs.Scan.{scan-of, input-at, goes-on, refusal, Reads}
+use Rattle.records.specs.Scan.{scan-of, input-at, goes-on, refused-scan, Reads}
 use Rattle.records.proofs.Exact.{Exact, exact-bytes, exact-next, exact-up-to, exact-loc, exact-counted}
 use Rattle.records.proofs.Scans.{by-number, going, staying, comes-of, reads-then, reads-bind, reads-ret, reads-stop, Took, took}
 
 module _ {A : Type 0} {P : A → Type 0} {f : A → Bytes} {m : Reader A} {mark : ℕ} {s : Bytes} {c d : Scan} where
-  pub taken : Exact P f [] m → c .at ≤ length s → Reads m mark s c d → d .number ≡ 0 → Took P f s c d
+  pub taken : Exact P f [] m → c .at ≤ length s → Reads m mark s c d → d .refusal .number ≡ 0 → Took P f s c d
   taken e l g z = took e l (comes-of g (record { mark = mark; room = 0; lambdas = 0; zone = Plain }) refl) z
 
 -- a length of w bytes, and that many bytes
 module _ {mark : ℕ} {s : Bytes} {c d : Scan} (l : c .at ≤ length s) (w : ℕ) (g : Reads (bytes w) mark s c d) where
-  pub reads-counted : {r : Scan} (n : ℕ) → d .number ≡ 0 → n ≡ number-of (take w (drop (c .at) s)) → Reads (bytes n) mark s d r → Reads (counted w) mark s c r
+  pub reads-counted : {r : Scan} (n : ℕ) → d .refusal .number ≡ 0 → n ≡ number-of (take w (drop (c .at) s)) → Reads (bytes n) mark s d r → Reads (counted w) mark s c r
   unfolding counted
   reads-counted {r} n z e h =
       reads-then (exact-bytes w) l g (λ y. absurd (y z)) (h .within)
       (λ a p y b. subst (λ (k : ℕ). Reads (bytes k) mark s d r) (e ∙ ap number-of (ap (take w) b ∙ take-at a _ w p)) h)
 
-  pub reads-counted-stop : (d .number ≡ 0 → ⊥) → Reads (counted w) mark s c d
+  pub reads-counted-stop : (d .refusal .number ≡ 0 → ⊥) → Reads (counted w) mark s c d
   unfolding counted
   reads-counted-stop z = reads-stop _ (exact-bytes w) l g z
 
-  pub counted-there : d .number ≡ 0 → c .at + w ≤ length s
+  pub counted-there : d .refusal .number ≡ 0 → c .at + w ≤ length s
   counted-there z = let t = taken (exact-bytes w) l g z in omega (arith, t .size, t .good, g .within)
 
 -- one byte
@@ -61,11 +62,11 @@ module _ {P : ℕ → Type 0} {m : Reader ℕ} {mark : ℕ} {s : Bytes} {c d : S
   unfolding byte
   first-byte a b = let e : c .at + 0 ≡ c .at = omega arith in sym (ap (λ (t : Bytes). getD t 0 0) b) ∙ getD-drop (c .at) s 0 0 ∙ ap (λ (n : ℕ). getD s n 0) e
 
-  pub byte-there : d .number ≡ 0 → c .at < length s
+  pub byte-there : d .refusal .number ≡ 0 → c .at < length s
   unfolding byte
   byte-there z = let t = taken e l g z in omega (arith, t .size, g .within)
 
-  pub reads-byte : {B : Type 0} {r : Scan} (k : ℕ → Reader B) → d .number ≡ 0 → (P (getD s (c .at) 0) → Reads (k (getD s (c .at) 0)) mark s d r) → r .at ≤ length s → Reads (m >>= k) mark s c r
+  pub reads-byte : {B : Type 0} {r : Scan} (k : ℕ → Reader B) → d .refusal .number ≡ 0 → (P (getD s (c .at) 0) → Reads (k (getD s (c .at) 0)) mark s d r) → r .at ≤ length s → Reads (m >>= k) mark s c r
   reads-byte {r} k z h w = reads-then e l g (λ y. absurd (y z)) w (λ a p y b. let q = first-byte a b in subst (λ (v : ℕ). Reads (k v) mark s d r) (sym q) (h (subst P q p)))
 
 -- a test of what was just read
@@ -75,32 +76,32 @@ module _ {A : Type 0} (m : Reader A) {mark : ℕ} {s : Bytes} {c : Scan} where
   reads-pass f true q h = h
   reads-pass f false q h = absurd (let z : _≡_ {A = ℕ} 0 1 = cc in omega arith)
 
-  pub reads-fail : (f : Fault) (b : Bool) → b ≡ false → c .number ≡ 0 → Reads (check f b m) mark s c (refusal (length s) (fault-number f) mark)
+  pub reads-fail : (f : Fault) (b : Bool) → b ≡ false → c .refusal .number ≡ 0 → Reads (check f b m) mark s c (refused-scan (length s) (fault-number f) (place-at mark))
   unfolding check scan-of
   reads-fail f true q z = absurd (let z : _≡_ {A = ℕ} 0 1 = cc in omega arith)
-  reads-fail f false q z = record { anywhere = λ x w. sym (going (check f false m) x s c z ∙ ap (refusal (length s) (fault-number f)) w); within = omega arith }
+  reads-fail f false q z = record { anywhere = λ x w. sym (going (check f false m) x s c z ∙ ap (λ (k : ℕ). refused-scan (length s) (fault-number f) (place-at k)) w); within = omega arith }
 
 -- a byte that is at most n
 module _ {mark : ℕ} {s : Bytes} {c d : Scan} (n : ℕ) (f : Fault) (l : c .at ≤ length s) (g : Reads (bytes 1) mark s c d) where
-  pub at-most-stop : (d .number ≡ 0 → ⊥) → Reads (at-most f n) mark s c d
+  pub at-most-stop : (d .refusal .number ≡ 0 → ⊥) → Reads (at-most f n) mark s c d
   unfolding at-most
   at-most-stop z = reads-stop _ exact-next l (one-byte g) z
 
-  pub at-most-over : d .number ≡ 0 → n < getD s (c .at) 0 → Reads (at-most f n) mark s c (refusal (length s) (fault-number f) mark)
+  pub at-most-over : d .refusal .number ≡ 0 → n < getD s (c .at) 0 → Reads (at-most f n) mark s c (refused-scan (length s) (fault-number f) (place-at mark))
   unfolding at-most
   at-most-over z h = reads-byte exact-next l (one-byte g) _ z (λ _. reads-fail (ret _) f _ (lt-leb _ _ h) z) (omega arith)
 
-  pub at-most-fine : d .number ≡ 0 → getD s (c .at) 0 ≤ n → Reads (at-most f n) mark s c d
+  pub at-most-fine : d .refusal .number ≡ 0 → getD s (c .at) 0 ≤ n → Reads (at-most f n) mark s c d
   unfolding at-most
   at-most-fine z h = reads-byte exact-next l (one-byte g) _ z (λ _. reads-pass (ret _) f _ (le-leb _ _ h) (reads-ret _ (g .within))) (g .within)
 
 -- a byte, with an L behind it from `least` on
 module _ {mark : ℕ} {s : Bytes} {c d : Scan} (least n : ℕ) (l : c .at ≤ length s) (g : Reads (at-most malformed n) mark s c d) where
-  pub optional-stop : (d .number ≡ 0 → ⊥) → Reads (optional-loc least n) mark s c d
+  pub optional-stop : (d .refusal .number ≡ 0 → ⊥) → Reads (optional-loc least n) mark s c d
   unfolding optional-loc
   optional-stop z = reads-stop _ (exact-up-to n) l g z
 
-  pub optional-absent : d .number ≡ 0 → getD s (c .at) 0 < least → Reads (optional-loc least n) mark s c d
+  pub optional-absent : d .refusal .number ≡ 0 → getD s (c .at) 0 < least → Reads (optional-loc least n) mark s c d
   unfolding optional-loc with-loc
   optional-absent z h = reads-byte (exact-up-to n) l g _ z (λ _. by (leb least (getD s (c .at) 0)) (lt-leb _ _ h)) (g .within)
     where
@@ -108,7 +109,7 @@ module _ {mark : ℕ} {s : Bytes} {c d : Scan} (least n : ℕ) (l : c .at ≤ le
       by true q = absurd (let z : _≡_ {A = ℕ} 0 1 = cc in omega arith)
       by false q = reads-ret _ (g .within)
 
-  pub optional-present : {r : Scan} → d .number ≡ 0 → least ≤ getD s (c .at) 0 → Reads loc mark s d r → Reads (optional-loc least n) mark s c r
+  pub optional-present : {r : Scan} → d .refusal .number ≡ 0 → least ≤ getD s (c .at) 0 → Reads loc mark s d r → Reads (optional-loc least n) mark s c r
   unfolding optional-loc with-loc
   optional-present {r} z h e = reads-byte (exact-up-to n) l g _ z (λ _. by (leb least (getD s (c .at) 0)) (le-leb _ _ h)) (e .within)
     where
@@ -145,26 +146,26 @@ module _ {A B C : Type 0} (m : Reader A) (k : A → Reader B) (v : A → B → C
 
 -- a number's bytes after their count
 module _ {mark : ℕ} {s : Bytes} {c d : Scan} (l : c .at ≤ length s) (g : Reads (counted integer-width) mark s c d) where
-  pub integer-stop : (d .number ≡ 0 → ⊥) → Reads integer mark s c d
+  pub integer-stop : (d .refusal .number ≡ 0 → ⊥) → Reads integer mark s c d
   unfolding integer
   integer-stop z = reads-stop _ exact-counted l g z
 
-  pub integer-part : d .number ≡ 0 → c .at + integer-width ≤ d .at
+  pub integer-part : d .refusal .number ≡ 0 → c .at + integer-width ≤ d .at
   unfolding number-field
   integer-part z = let t = taken exact-counted l g z in omega (arith, t .size)
 
   -- the bytes that are tested
-  the-bytes : (v : Bytes) → d .number ≡ 0 → drop (c .at) s ≡ (number-field 1 (length v) ++ v) ++ drop (d .at) s → take (d .at - (c .at + integer-width)) (drop (c .at + integer-width) s) ≡ v
+  the-bytes : (v : Bytes) → d .refusal .number ≡ 0 → drop (c .at) s ≡ (number-field 1 (length v) ++ v) ++ drop (d .at) s → take (d .at - (c .at + integer-width)) (drop (c .at + integer-width) s) ≡ v
   unfolding number-field
   the-bytes v z b =
       let rest : drop (c .at + integer-width) s ≡ v ++ drop (d .at) s = sym (drop-drop integer-width (c .at) s) ∙ ap (drop integer-width) b in
       let n : length v ≡ d .at - (c .at + integer-width) = omega (arith, ap length b, length-append v (drop (d .at) s), length-drop (c .at) s, length-drop (d .at) s, g .within) in
       ap (take (d .at - (c .at + integer-width))) rest ∙ take-at v _ _ n
 
-  pub integer-shortest : d .number ≡ 0 → shortest (take (d .at - (c .at + integer-width)) (drop (c .at + integer-width) s)) ≡ true → Reads integer mark s c d
+  pub integer-shortest : d .refusal .number ≡ 0 → shortest (take (d .at - (c .at + integer-width)) (drop (c .at + integer-width) s)) ≡ true → Reads integer mark s c d
   unfolding integer
   integer-shortest z h = reads-then exact-counted l g (λ y. absurd (y z)) (g .within) (λ v p y b. reads-pass (ret v) malformed _ (ap shortest (sym (the-bytes v z b)) ∙ h) (reads-ret v (g .within)))
 
-  pub integer-longer : d .number ≡ 0 → shortest (take (d .at - (c .at + integer-width)) (drop (c .at + integer-width) s)) ≡ false → Reads integer mark s c (refusal (length s) 2 mark)
+  pub integer-longer : d .refusal .number ≡ 0 → shortest (take (d .at - (c .at + integer-width)) (drop (c .at + integer-width) s)) ≡ false → Reads integer mark s c (refused-scan (length s) 2 (place-at mark))
   unfolding integer fault-number
   integer-longer z h = reads-then exact-counted l g (λ y. absurd (y z)) (omega arith) (λ v p y b. reads-fail (ret v) malformed _ (ap shortest (sym (the-bytes v z b)) ∙ h) y)

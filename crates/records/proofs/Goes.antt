@@ -18,7 +18,7 @@ use Rattle.records.proofs.Scans.{scan, staying, comes-of, comes-then, c
 use Rattle.records.proofs.RecordLaws.{OwnMark, own-marked, at-mark, comes-child}
 
 -- a refused reading stays
-pub goes-refused : (m : ℕ → AnyReader) {x : Context} {s : Bytes} {c : Scan} → c .at ≤ length s → (c .number ≡ 0 → ⊥) → Goes m x s c c
+pub goes-refused : (m : ℕ → AnyReader) {x : Context} {s : Bytes} {c : Scan} → c .at ≤ length s → (c .refusal .number ≡ 0 → ⊥) → Goes m x s c c
 goes-refused m {x} {s} {c} l z = record { enough = λ fuel h. record { there = sym (staying (m fuel .1) x s c z); within = l }; within = l }
 
 -- the bytes of each kind of record
@@ -54,12 +54,12 @@ own-of a-form zero = own-marked _
 own-of a-form (suc fuel) = own-marked _
 
 -- a child record, read as a part that starts at its mark
-pub goes-child : (f : Family) {x : Context} (s : Bytes) (c : Scan) {r : Scan} → c .at ≤ length s → c .number ≡ 0
-    → Goes (reader-of f) (at-mark (x .mark + c .at) x) (take (length s - c .at) (drop (c .at) s)) (scan 0 (c .number) (c .place) (c .first)) r
-    → Goes (reader-of f) x s c (scan (c .at + r .at) (r .number) (r .place) (r .first))
+pub goes-child : (f : Family) {x : Context} (s : Bytes) (c : Scan) {r : Scan} → c .at ≤ length s → c .refusal .number ≡ 0
+    → Goes (reader-of f) (at-mark (x .mark + c .at) x) (take (length s - c .at) (drop (c .at) s)) (scan 0 (c .refusal) (c .first)) r
+    → Goes (reader-of f) x s c (scan (c .at + r .at) (r .refusal) (r .first))
 goes-child f {x} s c {r} l z g =
     let part : take (length s - c .at) (drop (c .at) s) ≡ drop (c .at) s = take-all (length s - c .at) (drop (c .at) s) (omega (arith, length-drop (c .at) s)) in
-    let h = subst (λ (p : Bytes). Goes (reader-of f) (at-mark (x .mark + c .at) x) p (scan 0 (c .number) (c .place) (c .first)) r) part g in
+    let h = subst (λ (p : Bytes). Goes (reader-of f) (at-mark (x .mark + c .at) x) p (scan 0 (c .refusal) (c .first)) r) part g in
     record {
       enough = λ fuel e. comes-child (own-of f fuel) (exact-of f fuel) l z (h .enough fuel e);
       within = omega (arith, h .within, length-drop (c .at) s);
@@ -84,18 +84,18 @@ module _ {P : ℕ → Type 0} {m : Reader ℕ} {x : Context} {s : Bytes} {c d : 
   unfolding byte
   first-byte a b = let e : c .at + 0 ≡ c .at = omega arith in sym (ap (λ (t : Bytes). getD t 0 0) b) ∙ getD-drop (c .at) s 0 0 ∙ ap (λ (n : ℕ). getD s n 0) e
 
-  pub comes-byte : {B : Type 0} {r : Scan} (k : ℕ → Reader B) → d .number ≡ 0 → (P (getD s (c .at) 0) → Comes (k (getD s (c .at) 0)) x s d r) → r .at ≤ length s → Comes (m >>= k) x s c r
+  pub comes-byte : {B : Type 0} {r : Scan} (k : ℕ → Reader B) → d .refusal .number ≡ 0 → (P (getD s (c .at) 0) → Comes (k (getD s (c .at) 0)) x s d r) → r .at ≤ length s → Comes (m >>= k) x s c r
   comes-byte {B} {r} k z h w = comes-then e l g (λ y. absurd (y z)) w (λ a p y b. let q = first-byte a b in subst (λ (v : ℕ). Comes (k v) x s d r) (sym q) (h (subst P q p)))
 
-  pub comes-stop : {B : Type 0} (k : ℕ → Reader B) → (d .number ≡ 0 → ⊥) → Comes (m >>= k) x s c d
+  pub comes-stop : {B : Type 0} (k : ℕ → Reader B) → (d .refusal .number ≡ 0 → ⊥) → Comes (m >>= k) x s c d
   comes-stop k z = comes-then e l g (λ _. refl) (g .within) (λ a p y b. absurd (z y))
 
 -- a count, and that many records
 module _ (f : Family) {x : Context} {s : Bytes} {c d : Scan} (l : c .at ≤ length s) (g : Reads count (x .mark) s c d) where
-  pub many-stop : (d .number ≡ 0 → ⊥) → Goes (many-of f) x s c d
+  pub many-stop : (d .refusal .number ≡ 0 → ⊥) → Goes (many-of f) x s c d
   many-stop z = record { enough = λ fuel h. comes-stop exact-count l (comes-of g x refl) _ z; within = g .within }
 
-  pub many-there : {r : Scan} → d .number ≡ 0 → Goes (times-of (getD s (c .at) 0) f) x s d r → Goes (many-of f) x s c r
+  pub many-there : {r : Scan} → d .refusal .number ≡ 0 → Goes (times-of (getD s (c .at) 0) f) x s d r → Goes (many-of f) x s c r
   many-there z h = record { enough = λ fuel e. comes-byte exact-count l (comes-of g x refl) _ z (λ _. h .enough fuel e) (h .within); within = h .within }
 
 -- a BB takes no level, and stands above its body

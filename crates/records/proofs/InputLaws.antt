@@ -10,6 +10,9 @@ use lib.ListN.{length, drop, length-drop}
 use lib.Seq.{drop-append-seam}
 use borrow.Author.Tests.{le-leb, lt-leb}
 use Rattle.names.specs.Names.{Bytes}
+use Rattle.names.specs.Refusals.{place-at, refusing, placeless}
+use Rattle.names.specs.declared.Place.{Place}
+use Rattle.names.specs.declared.Refusal.{Refusal}
 use Rattle.names.specs.Answers.{max-counter}
 use Rattle.records.specs.declared.Opening.the-variants.{Accepted, Refused}
 use Rattle.records.specs.declared.Wanted.{Wanted}
@@ -18,9 +21,9 @@ use Rattle.records.specs.declared.Scan.{Scan}
 use Rattle.records.specs.Limits.{level-limit, least-longest, most-longest, work-factor}
 use Rattle.records.specs.Records.{body-bytes, helper-bytes, form-bytes}
 use Rattle.records.specs.Opened.{closed, limits, no-mod, open-input}
-use Rattle.records.specs.Read.{Input, Read, done, refused, Fault, malformed, over-limit, fault-number, Reader, whole, unread, left-over, read-whole}
-use Rattle.records.specs.Scan.{mod-number, mod-offset, scan-of, input-at, outermost, first-scan, opening-of, wanted-reader, Comes}
-use Rattle.records.proofs.Readers.{Any, from-first}
+use Rattle.records.specs.Read.{Input, Read, done, refused, Fault, fault-number, Reader, whole, unread, left-over, outermost, from-first, read-whole}
+use Rattle.records.specs.Scan.{mod-number, mod-offset, scan-of, input-at, first-scan, opening-of, wanted-reader, Comes}
+use Rattle.records.proofs.Readers.{Any}
 use Rattle.records.proofs.Exact.{Exact, exact-readers, exact-assign-of}
 use Rattle.records.proofs.Scans.{fault-positive, going}
 
@@ -52,8 +55,8 @@ module _ (F work c : ℕ) where
 
 -- what a reading from the first byte comes to
 pub data Came {A : Type 0} (m : Reader A) (input : Bytes) (r : Scan) : Type 0 where
-  came-refused : (n : Fault) → r .number ≡ fault-number n → read-whole m input ≡ unread n (r .place) → Came m input r
-  came-done : (a : A) (i : Input) → r .number ≡ 0 → r .at ≡ i .offset → r .first ≡ mod-number (i .first-mod) → i .rest ≡ drop (r .at) input → read-whole m input ≡ left-over a i → Came m input r
+  came-refused : (n : Fault) (p : Place) → r .refusal ≡ refusing (fault-number n) p → read-whole m input ≡ unread n p → Came m input r
+  came-done : (a : A) (i : Input) → r .refusal .number ≡ 0 → r .at ≡ i .offset → r .first ≡ mod-number (i .first-mod) → i .rest ≡ drop (r .at) input → read-whole m input ≡ left-over a i → Came m input r
 
 pub came : {A : Type 0} {P : A → Type 0} {f : A → Bytes} {m : Reader A} {input : Bytes} {r : Scan} → Exact P f [] m → Comes m outermost input first-scan r → Came m input r
 unfolding input-at mod-offset scan-of read-whole
@@ -66,17 +69,17 @@ came {A} {P} {f} {m} {input} {r} e h = go (m outermost (from-first input)) refl 
         let n : r .at ≡ i .offset = ap (λ (v : Scan). v .at) z ∙ omega arith in
         let m : length (f a) ≡ r .at = omega (arith, t .2) in
         let rest : i .rest ≡ drop (r .at) input = sym (ap (λ (k : ℕ). drop k input) (sym m) ∙ ap (drop (length (f a))) (t .0) ∙ drop-append-seam (f a) (i .rest)) in
-        came-done a i (ap (λ (v : Scan). v .number) z) n (ap (λ (v : Scan). v .first) z) rest (rw (q, read-whole))
+        came-done a i (ap (λ (v : Scan). v .refusal .number) z) n (ap (λ (v : Scan). v .first) z) rest (rw (q, read-whole))
     go (refused n p) q w =
         let z : r ≡ scan-of {A = A} 0 (length input) first-scan (refused n p) = w ∙ ap (scan-of 0 (length input) first-scan) q in
-        came-refused n (ap (λ (v : Scan). v .number) z) (rw (q, read-whole) (ap (unread n) (sym (ap (λ (v : Scan). v .place) z))))
+        came-refused n p (ap (λ (v : Scan). v .refusal) z) (rw (q, read-whole))
 
 module _ {A : Type 0} (m : Reader A) (F work c : ℕ) (input : Bytes) where
-  pub open-limits : limits F work c ≡ false → opening-of (open-input m F work c input) ≡ Refused 1 0
+  pub open-limits : limits F work c ≡ false → opening-of (open-input m F work c input) ≡ Refused (placeless 1)
   unfolding open-input
   open-limits h = rw (h, open-input)
 
-  pub open-long : limits F work c ≡ true → F < length input → opening-of (open-input m F work c input) ≡ Refused 3 0
+  pub open-long : limits F work c ≡ true → F < length input → opening-of (open-input m F work c input) ≡ Refused (placeless 3)
   unfolding open-input
   open-long h l = rw (h, lt-leb (length input) F l, open-input)
 
@@ -85,40 +88,28 @@ module _ {A : Type 0} (m : Reader A) (F work c : ℕ) (input : Bytes) where
     unfolding open-input
     read-it = rw (h, le-leb (length input) F l, open-input)
 
-    open-refused : (r .number ≡ 0 → ⊥) → opening-of (open-input m F work c input) ≡ Refused (r .number) (r .place)
+    pub open-refused : (r .refusal .number ≡ 0 → ⊥) → opening-of (open-input m F work c input) ≡ Refused (r .refusal)
     unfolding no-mod
     open-refused z = go w
       where
-        go : Came m input r → opening-of (open-input m F work c input) ≡ Refused (r .number) (r .place)
-        go (came-refused n q e) = ap opening-of (read-it ∙ ap no-mod e) ∙ ap (λ (k : ℕ). Refused k (r .place)) (sym q)
+        go : Came m input r → opening-of (open-input m F work c input) ≡ Refused (r .refusal)
+        go (came-refused n p q e) = ap opening-of (read-it ∙ ap no-mod e) ∙ ap Refused (sym q)
         go (came-done a i q o d t e) = absurd (z q)
 
-    pub open-refused-as : {n : ℕ} → (r .number ≡ 0 → ⊥) → r .number ≡ n → opening-of (open-input m F work c input) ≡ Refused n (r .place)
-    open-refused-as z q = open-refused z ∙ ap (λ (k : ℕ). Refused k (r .place)) q
-
-    pub open-number : (r .number ≡ 0 → ⊥) → (r .number ≡ 2 → ⊥) → r .number ≡ 3
-    unfolding fault-number
-    open-number z y = go w
-      where
-        go : Came m input r → r .number ≡ 3
-        go (came-refused malformed q e) = absurd (y q)
-        go (came-refused over-limit q e) = q
-        go (came-done a i q o d t e) = absurd (z q)
-
-    pub open-left : r .number ≡ 0 → r .at < length input → opening-of (open-input m F work c input) ≡ Refused 2 (r .at)
+    pub open-left : r .refusal .number ≡ 0 → r .at < length input → opening-of (open-input m F work c input) ≡ Refused (refusing 2 (place-at (r .at)))
     unfolding no-mod left-over fault-number
     open-left z b = go w
       where
-        left : (a : A) (i : Input) (k : Bytes) → i .rest ≡ k → i .rest ≡ drop (r .at) input → r .at ≡ i .offset → no-mod (left-over a i) ≡ closed 2 (r .at)
+        left : (a : A) (i : Input) (k : Bytes) → i .rest ≡ k → i .rest ≡ drop (r .at) input → r .at ≡ i .offset → no-mod (left-over a i) ≡ closed (refusing 2 (place-at (r .at)))
         left a i [] q t o = absurd (omega (arith, ap length (sym q ∙ t), length-drop (r .at) input))
-        left a i (x ∷ xs) q t o = rw (q, left-over) (ap (closed 2) (sym o))
+        left a i (x ∷ xs) q t o = rw (q, left-over) (ap (λ (k : ℕ). closed (refusing 2 (place-at k))) (sym o))
 
-        go : Came m input r → opening-of (open-input m F work c input) ≡ Refused 2 (r .at)
-        go (came-refused n q e) = absurd (fault-positive n (sym q ∙ z))
+        go : Came m input r → opening-of (open-input m F work c input) ≡ Refused (refusing 2 (place-at (r .at)))
+        go (came-refused n p q e) = absurd (fault-positive n (sym (ap (λ (v : Refusal). v .number) q) ∙ z))
         go (came-done a i q o d t e) = ap opening-of (read-it ∙ ap no-mod e ∙ left a i (i .rest) refl t o)
 
     -- nothing is left over
-    nothing-left : {X : Type 0} → r .number ≡ 0 → length input ≤ r .at
+    nothing-left : {X : Type 0} → r .refusal .number ≡ 0 → length input ≤ r .at
         → ((a : A) (i : Input) → r .first ≡ mod-number (i .first-mod) → open-input m F work c input ≡ no-mod (whole a (i .first-mod)) → X) → X
     unfolding left-over
     nothing-left {X} z b k = go w
@@ -128,18 +119,18 @@ module _ {A : Type 0} (m : Reader A) (F work c : ℕ) (input : Bytes) where
         left a i (x ∷ xs) q u = absurd (omega (arith, ap length (sym q ∙ u), length-drop (r .at) input))
 
         go : Came m input r → X
-        go (came-refused n q e) = absurd (fault-positive n (sym q ∙ z))
+        go (came-refused n p q e) = absurd (fault-positive n (sym (ap (λ (v : Refusal). v .number) q) ∙ z))
         go (came-done a i q o d t e) = k a i d (read-it ∙ ap no-mod (e ∙ left a i (i .rest) refl t))
 
-    pub open-mod : r .number ≡ 0 → length input ≤ r .at → (r .first ≡ 0 → ⊥) → opening-of (open-input m F work c input) ≡ Refused 4 (r .first - 1)
+    pub open-mod : r .refusal .number ≡ 0 → length input ≤ r .at → (r .first ≡ 0 → ⊥) → opening-of (open-input m F work c input) ≡ Refused (refusing 4 (place-at (r .first - 1)))
     unfolding no-mod mod-number
     open-mod z b y = nothing-left z b (λ a i d e. ap opening-of e ∙ go a (i .first-mod) d)
       where
-        go : (a : A) (o : Option ℕ) → r .first ≡ mod-number o → opening-of (no-mod (whole a o)) ≡ Refused 4 (r .first - 1)
+        go : (a : A) (o : Option ℕ) → r .first ≡ mod-number o → opening-of (no-mod (whole a o)) ≡ Refused (refusing 4 (place-at (r .first - 1)))
         go a none d = absurd (y d)
-        go a (some p) d = let q : p ≡ r .first - 1 = omega arith in ap (Refused 4) q
+        go a (some p) d = let q : p ≡ r .first - 1 = omega arith in ap (λ (k : ℕ). Refused (refusing 4 (place-at k))) q
 
-    pub open-accepted : r .number ≡ 0 → length input ≤ r .at → r .first ≡ 0 → opening-of (open-input m F work c input) ≡ Accepted
+    pub open-accepted : r .refusal .number ≡ 0 → length input ≤ r .at → r .first ≡ 0 → opening-of (open-input m F work c input) ≡ Accepted
     unfolding no-mod mod-number
     open-accepted z b y = nothing-left z b (λ a i d e. ap opening-of e ∙ go a (i .first-mod) d)
       where

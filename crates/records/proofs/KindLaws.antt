@@ -5,13 +5,14 @@ use Prim.Native.Nat.{ℕ, zero, suc, _≤_, _<_}
 use native.Mathlib.Omega.{arith}
 use lib.ListN.{length, getD}
 use Rattle.names.specs.Names.{Bytes}
+use Rattle.names.specs.Refusals.{place-at}
 use Rattle.records.specs.declared.Family.{Family}
 use Rattle.records.specs.declared.Family.the-variants.{Body as a-body, Binding as a-binding, Helper as a-helper, Form as a-form}
 use Rattle.records.specs.declared.Scan.{Scan}
 use Rattle.records.specs.Limits.{cons-limit}
 use Rattle.records.specs.Records.{SN, Name, BL, BV, BC, BM, BF, no-tail, tail, Binding, BB, HC, HM, HD, HN, HR, Form, CF, []ʰ, byte, to-bodies, to-bindings, to-helpers}
 use Rattle.records.specs.Read.{InMod, Context, Read, done, refused, Reader, malformed, _>>=_, _>>_, ret, times, deeper, in-bindings, loc, name, raw-field, keyword, hint, count, at-most, sexp, sexp-at, note, kind-of, more-levels, binding-zone, pattern-of, binding, binding-after, let-of, let-after, tail-after, call-tail, call-after, mod-after, lambda-after, constant-after, macro-after, function-after, namespace-after, reference-after, form-after, readers}
-use Rattle.records.specs.Scan.{scan-of, input-at, reader-of, times-of, many-of, body-after, lambda-within, helper-after, let-of-kind, tail-of, below, below-lambda, in-zone-of, refusal, Comes, Reads, Goes}
+use Rattle.records.specs.Scan.{scan-of, input-at, reader-of, times-of, many-of, body-after, lambda-within, helper-after, let-of-kind, tail-of, below, below-lambda, in-zone-of, refused-scan, Comes, Reads, Goes}
 use Rattle.records.proofs.Readers.{Any}
 use Rattle.records.specs.Lists.{joined}
 use Rattle.records.proofs.Exact.{Exact, exact-loc, exact-name, exact-raw-field, exact-keyword, exact-hint, exact-count, exact-up-to, exact-sexp, exact-note, exact-times, exact-bind, exact-last, exact-pattern-of, exact-call-tail, exact-in-zone, exact-in-bindings, exact-readers}
@@ -52,11 +53,11 @@ module _ {x : Context} {s : Bytes} {c : Scan} (l : c .at ≤ length s) where
   }
 
   module _ {d : Scan} (g : Reads (at-most malformed 1) (x .mark) s c d) where
-    pub tail-stop : (d .number ≡ 0 → ⊥) → Goes tail-of x s c d
+    pub tail-stop : (d .refusal .number ≡ 0 → ⊥) → Goes tail-of x s c d
     unfolding call-tail
     tail-stop z = record { enough = λ fuel h. comes-stop (exact-up-to 1) l (comes-of g x refl) _ z; within = g .within }
 
-    pub tail-none : d .number ≡ 0 → getD s (c .at) 0 ≡ 0 → Goes tail-of x s c d
+    pub tail-none : d .refusal .number ≡ 0 → getD s (c .at) 0 ≡ 0 → Goes tail-of x s c d
     unfolding call-tail tail-after
     tail-none z q = record { enough = λ fuel h. comes-byte (exact-up-to 1) l (comes-of g x refl) _ z (λ _. at fuel (getD s (c .at) 0) q) (g .within); within = g .within }
       where
@@ -64,7 +65,7 @@ module _ {x : Context} {s : Bytes} {c : Scan} (l : c .at ≤ length s) where
         at fuel zero e = comes-ret no-tail (g .within)
         at fuel (suc b) e = absurd (omega arith)
 
-    pub tail-there : {r : Scan} → d .number ≡ 0 → (getD s (c .at) 0 ≡ 0 → ⊥) → Goes (reader-of a-body) x s d r → Goes tail-of x s c r
+    pub tail-there : {r : Scan} → d .refusal .number ≡ 0 → (getD s (c .at) 0 ≡ 0 → ⊥) → Goes (reader-of a-body) x s d r → Goes tail-of x s c r
     unfolding call-tail tail-after
     tail-there {r} z q k = record { enough = λ fuel h. comes-byte (exact-up-to 1) l (comes-of g x refl) _ z (λ _. at fuel h (getD s (c .at) 0) q) (k .within); within = k .within }
       where
@@ -98,7 +99,7 @@ module _ {x : Context} {s : Bytes} {c : Scan} (l : c .at ≤ length s) where
       y : Context
       y = below-lambda x
 
-  pub goes-no-lambda : x .lambdas ≡ 0 → c .number ≡ 0 → Goes (body-after lambda-within) x s c (refusal (length s) 3 (x .mark))
+  pub goes-no-lambda : x .lambdas ≡ 0 → c .refusal .number ≡ 0 → Goes (body-after lambda-within) x s c (refused-scan (length s) 3 (place-at (x .mark)))
   goes-no-lambda h z = record { enough = λ fuel w. comes-no-lambda (lambda-after (readers fuel)) (omega arith) z; within = omega arith }
 
   -- BB
@@ -167,10 +168,10 @@ reads-reference l a n t = reads-bind exact-loc l [] a (λ l₁. reads-bind exact
 
 -- BL: its kind byte, and what stands after it
 module _ {x : Context} {s : Bytes} {c d : Scan} (l : c .at ≤ length s) (g : Reads (at-most malformed 2) (x .mark) s c d) where
-  pub let-stop : (d .number ≡ 0 → ⊥) → Goes (body-after let-after) x s c d
+  pub let-stop : (d .refusal .number ≡ 0 → ⊥) → Goes (body-after let-after) x s c d
   let-stop z = record { enough = λ fuel h. comes-stop (exact-up-to 2) l (comes-of g x refl) _ z; within = g .within }
 
-  pub let-there : {r : Scan} → d .number ≡ 0 → Goes (let-of-kind (getD s (c .at) 0)) x s d r → Goes (body-after let-after) x s c r
+  pub let-there : {r : Scan} → d .refusal .number ≡ 0 → Goes (let-of-kind (getD s (c .at) 0)) x s d r → Goes (body-after let-after) x s c r
   let-there z k = record { enough = λ fuel h. comes-byte (exact-up-to 2) l (comes-of g x refl) _ z (λ _. k .enough fuel h) (k .within); within = k .within }
 
 module _ {x : Context} {s : Bytes} {c d e f u : Scan} (l : c .at ≤ length s)
@@ -183,16 +184,16 @@ module _ {x : Context} {s : Bytes} {c d e f u : Scan} (l : c .at ≤ length s)
   let-fields k fuel v m =
       comes-bind exact-loc l [] (comes-of a x refl) (λ l₁. comes-bind exact-keyword (a .within) [] (comes-of w x refl) (λ w₁. comes-bind exact-hint (w .within) [] (comes-of h x refl) (λ h₁. m l₁ w₁ h₁)))
 
-  pub count-stop : (k : ℕ) → (u .number ≡ 0 → ⊥) → Goes (let-of-kind k) x s c u
+  pub count-stop : (k : ℕ) → (u .refusal .number ≡ 0 → ⊥) → Goes (let-of-kind k) x s c u
   count-stop k z = record { enough = λ fuel v. let-fields k fuel (n .within) (λ l₁ w₁ h₁. comes-stop exact-count (h .within) (comes-of n x refl) _ z); within = n .within }
 
-  pub let-deep : (k more : ℕ) → u .number ≡ 0 → more ≡ more-levels (kind-of k) (getD s (f .at) 0) → x .room < more → Goes (let-of-kind k) x s c (refusal (length s) 3 (x .mark))
+  pub let-deep : (k more : ℕ) → u .refusal .number ≡ 0 → more ≡ more-levels (kind-of k) (getD s (f .at) 0) → x .room < more → Goes (let-of-kind k) x s c (refused-scan (length s) 3 (place-at (x .mark)))
   let-deep k more z q o = record {
     enough = λ fuel v. let-fields k fuel (omega arith) (λ l₁ w₁ h₁. comes-byte exact-count (h .within) (comes-of n x refl) _ z (λ _. comes-shallow _ _ (omega (arith, q)) z) (omega arith));
     within = omega arith;
   }
 
-  pub let-bindings : {b r : Scan} (k more : ℕ) → u .number ≡ 0 → more ≡ more-levels (kind-of k) (getD s (f .at) 0) → more ≤ x .room
+  pub let-bindings : {b r : Scan} (k more : ℕ) → u .refusal .number ≡ 0 → more ≡ more-levels (kind-of k) (getD s (f .at) 0) → more ≤ x .room
       → Goes (times-of (getD s (f .at) 0) a-binding) (in-zone-of (binding-zone (kind-of k) (x .zone)) (below more x)) s u b → Goes (reader-of a-body) (below more x) s b r → Goes (let-of-kind k) x s c r
   let-bindings {b} {r} k more z q o bs m = record {
     enough = λ fuel v. let-fields k fuel (m .within) (λ l₁ w₁ h₁. comes-byte exact-count (h .within) (comes-of n x refl) _ z (λ _. levels fuel v l₁ w₁ h₁) (m .within));

@@ -7,6 +7,7 @@ use native.Mathlib.Omega.{arith}
 use lib.Dec.{T, leb, leb→le}
 use lib.ListN.{length}
 use Rattle.names.specs.Names.{Bytes}
+use Rattle.names.specs.Refusals.{placeless}
 use Rattle.names.specs.Answers.{max-counter}
 use Rattle.names.proofs.Same.{T-left, T-right}
 use Rattle.records.specs.Opened.{Opened, opened, closed, limits, no-mod, open-input}
@@ -31,7 +32,7 @@ within-limits F work c e =
 module _ {A : Type 0} (reader : Reader A) (F work c : ℕ) (input : Bytes) where
   abbrev pub Start : Opened A → Type 0
   Start (opened a) = OpenedFrom reader F c input a
-  Start (closed n p) = (1 ≤ n) × (n ≤ 4)
+  Start (closed r) = (1 ≤ r .number) × (r .number ≤ 4)
 
   start-read : F ≤ most-longest → c ≤ max-counter → length input ≤ F → (w : Whole A) → read-whole reader input ≡ w → Start (no-mod w)
   unfolding no-mod fault-number
@@ -45,11 +46,11 @@ module _ {A : Type 0} (reader : Reader A) (F work c : ℕ) (input : Bytes) where
   start = go (limits F work c) refl
     where
       go₂ : (F ≤ most-longest) × (c ≤ max-counter) → (b : Bool) → leb (length input) F ≡ b
-          → Start (elim b as (λ _. Opened A) [ false ↦ closed 3 0 | true ↦ no-mod (read-whole reader input) ])
+          → Start (elim b as (λ _. Opened A) [ false ↦ closed (placeless 3) | true ↦ no-mod (read-whole reader input) ])
       go₂ h true e = let t : T (leb (length input) F) = rw e tt in start-read (h .0) (h .1) (leb→le (length input) F t) (read-whole reader input) refl
       go₂ h false e = (omega arith, omega arith)
 
       go : (b : Bool) → limits F work c ≡ b
-          → Start (elim b as (λ _. Opened A) [ false ↦ closed 1 0 | true ↦ elim (leb (length input) F) [ false ↦ closed 3 0 | true ↦ no-mod (read-whole reader input) ] ])
+          → Start (elim b as (λ _. Opened A) [ false ↦ closed (placeless 1) | true ↦ elim (leb (length input) F) [ false ↦ closed (placeless 3) | true ↦ no-mod (read-whole reader input) ] ])
       go true e = go₂ (within-limits F work c e) (leb (length input) F) refl
       go false e = (omega arith, omega arith)

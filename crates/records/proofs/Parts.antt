@@ -11,22 +11,23 @@ use Rattle.names.specs.Segments.{At}
 use Rattle.records.specs.declared.Family.{Family}
 use Rattle.records.specs.declared.Family.the-variants.{Body as a-body, Binding as a-binding, Helper as a-helper, Form as a-form}
 use Rattle.records.specs.declared.Scan.{Scan}
-use Rattle.records.specs.Limits.{level-limit, cons-limit, lambda-limit}
+use Rattle.records.specs.Limits.{level-limit, lambda-limit}
 use Rattle.records.specs.declared.Zone.{Zone}
 use Rattle.records.specs.declared.Zone.the-variants.{Plain}
-use Rattle.records.specs.Read.{Read, done, refused, Reader, sexp, sexp-at}
-use Rattle.records.specs.Scan.{scan-of, input-at, reader-of, outermost, first-scan, Comes, Reads as Anywhere}
-use Rattle.records.proofs.Complete.{context, Reads, Quiet, complete-readers, reads-binding, reads-sexp}
+use Rattle.records.specs.Read.{Read, done, refused, Reader, outermost}
+use Rattle.records.specs.Scan.{scan-of, input-at, reader-of, from-place, first-scan, Comes, Reads as Anywhere}
+use Rattle.records.proofs.Complete.{context, Reads, Quiet, complete-readers, reads-binding}
 use Rattle.records.proofs.Exact.{Exact}
 use Rattle.records.proofs.Scans.{going}
 use Rattle.records.specs.Lists.{joined, Each}
-use Rattle.records.specs.Parts.{Part, family-part, sexp-part, fixed-part, Skips, Past, from-place}
+use Rattle.records.specs.Parts.{Part, family-part, fields-part, sexp-part, Skips, Past, PastBytes}
 use Rattle.names.proofs.Places.{at-left, at-right}
-use Rattle.records.proofs.Places.{at-split, at-start}
+use Rattle.names.proofs.Parts.{into}
+use Rattle.records.proofs.Places.{at-split}
 
 module _ {A : Type 0} {Q : Type 0} {m : Reader A} {mark n k : ℕ} {z : Zone} {s bs : Bytes} {a : A} {c r : Scan} where
   -- a reading goes on over the bytes of a tree that is read back
-  pub goes-past : Reads Q n k z m bs a → c .number ≡ 0 → Comes m (context mark n k z) s c r → At s (c .at) bs → r .at ≡ c .at + length bs
+  pub goes-past : Reads Q n k z m bs a → c .refusal .number ≡ 0 → Comes m (context mark n k z) s c r → At s (c .at) bs → r .at ≡ c .at + length bs
   unfolding scan-of input-at
   goes-past e q g h =
       let u = e .reads mark (input-at mark s c) _ (at-split h) in
@@ -40,7 +41,7 @@ anywhere-comes h = record { there = h .anywhere outermost refl; within = h .with
 
 -- a reading never goes back
 module _ {A : Type 0} {P : A → Type 0} {f : A → Bytes} {m : Reader A} {s : Bytes} {c r : Scan} where
-  goes-onward : Exact P f [] m → c .number ≡ 0 → c .at ≤ length s → Comes m outermost s c r → c .at ≤ r .at
+  goes-onward : Exact P f [] m → c .refusal .number ≡ 0 → c .at ≤ length s → Comes m outermost s c r → c .at ≤ r .at
   unfolding scan-of input-at
   goes-onward e q l g = go (m outermost (input-at 0 s c)) refl
     where
@@ -58,10 +59,10 @@ field-past {f} {at} {r} x l e q h = record {
   within = h .within;
   onward =
       let p : _ ≡ at = ap (λ (y : Scan). y .at) q in
-      rw (← p) (goes-onward x (ap (λ (y : Scan). y .number) q) (rw p l) (anywhere-comes h));
+      rw (← p) (goes-onward x (ap (λ (y : Scan). y .refusal .number) q) (rw p l) (anywhere-comes h));
   past = λ t v a.
       let a′ : At _ _ (f t) = rw (← ap (λ (x : Scan). x .at) q) at a in
-      goes-past (e t v) (ap (λ (x : Scan). x .number) q) (anywhere-comes h) a′ ∙ ap (λ (x : Scan). x .at + length (f t)) q;
+      goes-past (e t v) (ap (λ (x : Scan). x .refusal .number) q) (anywhere-comes h) a′ ∙ ap (λ (x : Scan). x .at + length (f t)) q;
 }
 
 -- a record that stands by itself is the one that stands at a place
@@ -71,11 +72,11 @@ skips-past {p} {s} {at} {r} h k =
     record {
       within = omega (arith, k .within, ap length w, length-drop at s);
       onward = omega arith;
-      past = λ t v a. ap (λ (n : ℕ). at + n) (k .skips t _ v (w ∙ at-split a));
+      past = λ t v a. ap (λ (n : ℕ). at + n) (k .skips t v (into a));
     }
 
 -- the records of each family, in the first context
-pub family-past : (f : Family) {s : Bytes} {c r : Scan} → c .number ≡ 0 → Comes (reader-of f level-limit .1) outermost s c r
+pub family-past : (f : Family) {s : Bytes} {c r : Scan} → c .refusal .number ≡ 0 → Comes (reader-of f level-limit .1) outermost s c r
     → (t : family-part f .0) → family-part f .2 t → At s (c .at) (family-part f .1 t) → r .at ≡ c .at + length (family-part f .1 t)
 family-past a-body q g t v h = goes-past (complete-readers level-limit .body level-limit lambda-limit Plain t (omega arith) (v .0) (v .1) (v .2)) q g h
 family-past a-binding q g t v h = goes-past (reads-binding _ _ (complete-readers level-limit) level-limit lambda-limit Plain t (omega arith) (v .0) (v .1) (v .2)) q g h
@@ -83,12 +84,11 @@ family-past a-helper q g t v h = goes-past (complete-readers level-limit .helper
 family-past a-form q g t v h = goes-past (complete-readers level-limit .form level-limit lambda-limit Plain t (omega arith) (v .0) (v .1) (v .2)) q g h
 
 pub family-skips : (f : Family) {s : Bytes} {r : Scan} → Comes (reader-of f level-limit .1) outermost s first-scan r → Skips (family-part f) s (r .at)
-family-skips f g = record { within = g .within; skips = λ t more v e. family-past f refl g t v (at-start _ more e) ∙ zero-add _ }
+family-skips f g = record { within = g .within; skips = λ t v a. family-past f refl g t v a ∙ zero-add _ }
 
--- S records
-pub sexp-skips : {s : Bytes} {r : Scan} → Anywhere (sexp-at cons-limit) 0 s first-scan r → Skips sexp-part s (r .at)
-unfolding sexp
-sexp-skips g = record { within = g .within; skips = λ t more v e. goes-past (reads-sexp v) refl (anywhere-comes g) (at-start _ more e) ∙ zero-add _ }
+-- an S record within the limit is one of some depth
+pub valid-past : {s : Bytes} {at r : ℕ} → Past fields-part s at r → Past sexp-part s at r
+valid-past k = record { within = k .within; onward = k .onward; past = λ t v a. k .past t (v .0) a }
 
 -- of n trees i are behind, the others stand from `at` on, and they end at e
 pub record Left (p : Part) (s : Bytes) (at i n e : ℕ) : Type 0 where
@@ -125,8 +125,8 @@ left-none {p} {s} {at} {i} {n} {e} h l = go (h .rest) (h .count) (h .ends)
     go (t ∷ ts) c q = absurd (omega arith)
 
 -- so many bytes
-pub fixed-past : {s : Bytes} {at n : ℕ} → at + n ≤ length s → Past (fixed-part n) s at (at + n)
-fixed-past {s} {at} h = record { within = h; onward = omega arith; past = λ t v a. ap (λ (k : ℕ). at + k) (sym v) }
+pub fixed-past : {s : Bytes} {at n : ℕ} → at + n ≤ length s → PastBytes n s at (at + n)
+fixed-past {s} {at} h = record { past = record { within = h; onward = omega arith; past = λ t v a. ap (λ (k : ℕ). at + k) (sym v) }; missing = λ l. absurd (omega arith) }
 
-pub fixed-short : {s : Bytes} {at n : ℕ} → at ≤ length s → length s - at < n → Past (fixed-part n) s at (length s)
-fixed-short h l = record { within = omega arith; onward = h; past = λ t v a. absurd (omega (arith, a .fits, v)) }
+pub fixed-short : {s : Bytes} {at n : ℕ} → at ≤ length s → length s - at < n → PastBytes n s at (length s)
+fixed-short h l = record { past = record { within = omega arith; onward = h; past = λ t v a. absurd (omega (arith, a .fits, v)) }; missing = λ _. refl }

@@ -3,8 +3,8 @@ use mathlib.Core.Path.{_≡_, ap, sym, _∙_}
 use mathlib.Core.List.{[], _∷_, _++_}
 use Prim.Native.Nat.{ℕ, suc, _<_}
 use native.Mathlib.Omega.{arith}
-use lib.ListN.{length, take, drop, getD, length-append, take-append-drop}
-use lib.Seq.{take-append-seam, drop-cons}
+use lib.ListN.{length, take, drop, getD, take-append-drop}
+use lib.Seq.{drop-cons}
 use Rattle.names.specs.Names.{Bytes}
 use Rattle.names.specs.Segments.{At}
 use Rattle.records.specs.Records.{byte}
@@ -13,13 +13,9 @@ use Rattle.records.specs.Records.{byte}
 pub at-split : {s : Bytes} {p : ℕ} {bs : Bytes} → At s p bs → drop p s ≡ bs ++ drop (length bs) (drop p s)
 at-split {s} {p} {bs} a = sym (take-append-drop (length bs) (drop p s)) ∙ ap (λ (x : Bytes). x ++ drop (length bs) (drop p s)) (a .there)
 
--- what the bytes start with stands at 0
-pub at-start : {s : Bytes} (bs more : Bytes) → s ≡ bs ++ more → At s 0 bs
-at-start {s} bs more e = record { fits = omega (arith, ap length e, length-append bs more); there = ap (take (length bs)) e ∙ take-append-seam bs more }
-
 module _ {s : Bytes} {p : ℕ} (b : ℕ) where
   -- one byte that stands at a place
-  pub byte-fits : At s p (byte b) → p < length s
+  byte-fits : At s p (byte b) → p < length s
   unfolding byte
   byte-fits a = omega (arith, a .fits)
 

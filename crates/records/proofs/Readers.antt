@@ -2,19 +2,20 @@
 use mathlib.Core.Path.{_≡_, refl, ap, _∙_}
 use mathlib.Core.Bool.{Bool, true, false}
 use mathlib.Core.List.{[], _∷_}
-use mathlib.Core.Option.{Option, none}
+use mathlib.Core.Option.{Option}
 use Prim.Native.Nat.{ℕ}
 use native.Mathlib.Omega.{arith}
 use lib.Dec.{T}
 use Rattle.names.specs.Names.{Bytes}
-use Rattle.records.specs.Limits.{level-limit, lambda-limit}
-use Rattle.records.specs.Read.{Plain, Context, Input, Fault, malformed, Read, done, refused, Reader, Whole, whole, unread, left-over, read-whole}
+use Rattle.names.specs.Refusals.{place-at}
+use Rattle.names.specs.declared.Place.{Place}
+use Rattle.records.specs.Read.{Input, Fault, malformed, Read, done, refused, Reader, Whole, whole, unread, left-over, outermost, from-first, read-whole}
 
 -- nothing is said of the result
 abbrev pub Any : {A : Type 0} → A → Type 0
 Any a = Unit {0}
 
-pub not-done : {A : Type 0} {n : Fault} {p : ℕ} {a : A} {j : Input} → _≡_ {A = Read A} (refused n p) (done a j) → ⊥
+pub not-done : {A : Type 0} {n : Fault} {p : Place} {a : A} {j : Input} → _≡_ {A = Read A} (refused n p) (done a j) → ⊥
 not-done e = let z : _≡_ {A = ℕ} 0 1 = cc in omega arith
 
 pub same-value : {A : Type 0} {a b : A} {i j : Input} → _≡_ {A = Read A} (done a i) (done b j) → a ≡ b
@@ -31,13 +32,6 @@ pub true-of : (b : Bool) → T b → b ≡ true
 true-of true t = refl
 true-of false t = absurd t
 
--- where a whole input is read from
-abbrev pub outermost : Context
-outermost = record { mark = 0; room = level-limit; lambdas = lambda-limit; zone = Plain }
-
-abbrev pub from-first : Bytes → Input
-from-first input = record { offset = 0; rest = input; first-mod = none }
-
 -- m reads the whole input as a
 pub record ReadsWhole {A : Type 0} (m : Reader A) (input : Bytes) (a : A) : Type 0 where
   pub end : Input
@@ -49,7 +43,7 @@ module _ {A : Type 0} where
   unfolding left-over
   left-over-none a b i o h = go (i .rest) refl h
     where
-      go : (r : Bytes) → i .rest ≡ r → _≡_ {A = Whole A} (elim r [ [] ↦ whole a (i .first-mod) | x ∷ xs ↦ unread malformed (i .offset) ]) (whole b o) → (i .rest ≡ []) × (a ≡ b)
+      go : (r : Bytes) → i .rest ≡ r → _≡_ {A = Whole A} (elim r [ [] ↦ whole a (i .first-mod) | x ∷ xs ↦ unread malformed (place-at (i .offset)) ]) (whole b o) → (i .rest ≡ []) × (a ≡ b)
       go [] q h′ = (q, cc)
       go (x ∷ xs) q h′ = absurd (let z : _≡_ {A = ℕ} 0 1 = cc in omega arith)
 

@@ -4,18 +4,18 @@ use mathlib.Core.List.{List, [], _∷_, _++_, append-assoc}
 use Prim.Native.Nat.{ℕ, _+_, _-_, _≤_, _<_}
 use native.Mathlib.Nat.{zero-add}
 use native.Mathlib.Omega.{arith}
-use lib.ListN.{length, take, drop, length-append, length-drop}
+use lib.ListN.{length, take, drop, getD, length-append, length-drop}
 use lib.Seq.{take-all}
 use Rattle.names.specs.Names.{Bytes}
 use Rattle.names.specs.Segments.{At}
 use Rattle.names.proofs.Places.{at-left, at-right, at-place, at-into-drop}
-use Rattle.records.specs.Records.{byte}
+use Rattle.records.specs.Records.{mark-width, byte}
 use Rattle.records.specs.declared.Counted.{Counted}
 use Rattle.records.specs.Count.{total, no-records, many-part, Counts, Begun, Adds}
 use Rattle.records.specs.Lists.{joined, Each}
 use Rattle.records.specs.Parts.{Part, fixed-part, Past}
-use Rattle.records.specs.Views.{mark-width}
 use Rattle.records.proofs.Lists.{Listed}
+use Rattle.records.proofs.Places.{byte-there}
 
 -- so many records, up to there
 abbrev pub counted : ℕ → ℕ → Counted
@@ -151,7 +151,7 @@ module _ {p : Part} {n : p .0 → ℕ} {s : Bytes} {c : Counted} {i size e k : �
       go (t ∷ ts) m q z = absurd (omega arith)
 
 -- all are left behind the byte that says how many
-pub rest-first : {p : Part} {n : p .0 → ℕ} {s : Bytes} {c : Counted} {size at : ℕ} → ((b : ℕ) → At s (c .end) (byte b) → size ≡ b) → Past (fixed-part 1) s (c .end) at
+pub rest-first : {p : Part} {n : p .0 → ℕ} {s : Bytes} {c : Counted} {size at : ℕ} → size ≡ getD s (c .end) 0 → Past (fixed-part 1) s (c .end) at
     → (ts : List (p .0)) → Each (p .2) ts → At s (c .end) (byte (length ts) ++ joined (p .1) ts)
     → Rest p n s (counted (c .count) at) 0 size (c .end + length (byte (length ts) ++ joined (p .1) ts)) (c .count + total n ts)
 unfolding byte
@@ -160,7 +160,7 @@ rest-first {p} {c} {at} h x ts v a =
     let w : at ≡ c .end + 1 = x .past (byte (length ts)) refl b in
     record {
       rest = ts;
-      many = omega (arith, h _ b);
+      many = omega (arith, h, byte-there _ b);
       fit = v;
       there = rw w (at-right (byte (length ts)) (joined (p .1) ts) a);
       ends = omega (arith, w, length-append (byte (length ts)) (joined (p .1) ts));

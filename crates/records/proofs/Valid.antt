@@ -10,9 +10,10 @@ use native.Mathlib.Omega.{arith}
 use lib.Dec.{leb, eqb, leb→le}
 use lib.ListN.{length}
 use Rattle.names.specs.Names.{Bytes, ascii, same, number-of, number-after, name-width, name-limit}
+use Rattle.names.specs.Refusals.{place-at}
 use Rattle.records.specs.Lists.{Each}
 use Rattle.records.specs.Limits.{level-limit, cons-limit, lambda-limit, count-limit}
-use Rattle.records.specs.Records.{loc-width, raw-width, byte, Sexp, SN, SC, SI, SQ, SA, Kind, Assign, Name, Complex, Body, BL, BQ, BV, BC, BM, BF, Tail, no-tail, tail, Binding, BB, Helper, HC, HM, HD, HN, HR, Form, CF, to-bodies, to-bindings, to-helpers, integer-width}
+use Rattle.records.specs.Records.{mark-width, loc-width, raw-width, byte, Sexp, SN, SC, SI, SQ, SA, Kind, Assign, Name, Complex, Body, BL, BQ, BV, BC, BM, BF, Tail, no-tail, tail, Binding, BB, Helper, HC, HM, HD, HN, HR, Form, CF, to-bodies, to-bindings, to-helpers, integer-width}
 use Rattle.records.specs.Valid.{IsByte, AreBytes, ValidLoc, ValidName, WithLoc, ValidKeyword, ValidHint, ValidRaw, ValidCount, cons-depth, SexpFields, ValidSexp, ValidPattern, BodyFields, BodiesFields, TailFields, BindingFields, BindingsFields, HelperFields, HelpersFields, FormFields, lambda-depth, bodies-lambda-depth, tail-lambda-depth, binding-lambda-depth, bindings-lambda-depth, helper-lambda-depth, helpers-lambda-depth, form-lambda-depth, ValidHelper, ValidForm, ValidAssign, IsLet}
 use Rattle.records.specs.Read.{Zone, Context, Input, Fault, malformed, over-limit, Read, done, refused, Reader, _>>=_, _>>_, ret, refuse, check, times, deeper, in-lambda, in-zone, next, bytes, choose, marked, loc, name, raw-field, integer, up-to, with-loc, keyword, hint, count, shortest, sexp-rule, cons-rule, sexp-at, sexp, note, Readers, kind-of, more-levels, in-bindings, pattern-after, pattern-of, binding, let-of, tail-after, call-tail, body-rule, helper-rule, form-rule, rules, readers, assign-of, whole, read-whole, counted, at-most, optional-loc}
 use Rattle.records.proofs.Readers.{Any, not-done, same-value, same-input, T-of, reads-whole}
@@ -47,7 +48,7 @@ module _ {A : Type 0} {k : ℕ} {P : A → Type 0} {m : Reader A} where
   yields-check y ok s = record { yields = λ c i b j q x h. go c i b j q x ok refl h }
     where
       go : (c : Context) (i : Input) (b : A) (j : Input) → c .lambdas ≡ k → AreBytes (i .rest) → (o : Bool) → ok ≡ o
-          → _≡_ {A = Read A} (elim o [ true ↦ m c i | false ↦ refused y (c .mark) ]) (done b j) → P b × AreBytes (j .rest)
+          → _≡_ {A = Read A} (elim o [ true ↦ m c i | false ↦ refused y (place-at (c .mark)) ]) (done b j) → P b × AreBytes (j .rest)
       go c i b j q x true e h = s e .yields c i b j q x h
       go c i b j q x false e h = absurd (not-done h)
 
@@ -56,7 +57,7 @@ module _ {A : Type 0} {k : ℕ} {P : A → Type 0} {m : Reader A} where
   yields-deeper d s = record { yields = λ c i b j q x h. go c i b j q x (leb d (c .room)) h }
     where
       go : (c : Context) (i : Input) (b : A) (j : Input) → c .lambdas ≡ k → AreBytes (i .rest) → (o : Bool)
-          → _≡_ {A = Read A} (elim o [ true ↦ m (record { mark = c .mark; room = c .room - d; lambdas = c .lambdas; zone = c .zone }) i | false ↦ refused over-limit (c .mark) ]) (done b j)
+          → _≡_ {A = Read A} (elim o [ true ↦ m (record { mark = c .mark; room = c .room - d; lambdas = c .lambdas; zone = c .zone }) i | false ↦ refused over-limit (place-at (c .mark)) ]) (done b j)
           → P b × AreBytes (j .rest)
       go c i b j q x true h = s .yields _ i b j q x h
       go c i b j q x false h = absurd (not-done h)
@@ -74,7 +75,7 @@ unfolding in-lambda
 yields-in-lambda {A} {P} {m} k s = record { yields = λ c i b j q x h. go c i b j q x (leb 1 (c .lambdas)) refl h }
   where
     go : (c : Context) (i : Input) (b : A) (j : Input) → c .lambdas ≡ k → AreBytes (i .rest) → (o : Bool) → leb 1 (c .lambdas) ≡ o
-        → _≡_ {A = Read A} (elim o [ true ↦ m (record { mark = c .mark; room = c .room; lambdas = c .lambdas - 1; zone = c .zone }) i | false ↦ refused over-limit (c .mark) ]) (done b j)
+        → _≡_ {A = Read A} (elim o [ true ↦ m (record { mark = c .mark; room = c .room; lambdas = c .lambdas - 1; zone = c .zone }) i | false ↦ refused over-limit (place-at (c .mark)) ]) (done b j)
         → P b × AreBytes (j .rest)
     go c i b j q x true e h = s (omega (arith, leb→le 1 (c .lambdas) (T-of e))) .yields _ i b j (ap (λ (y : ℕ). y - 1) q) x h
     go c i b j q x false e h = absurd (not-done h)
@@ -114,7 +115,7 @@ module _ {k : ℕ} where
   yields-next = record { yields = λ c i b j q x h. go c i b j (i .rest) x h }
     where
       go : (c : Context) (i : Input) (b : ℕ) (j : Input) (r : Bytes) → AreBytes r
-          → _≡_ {A = Read ℕ} (elim r [ [] ↦ refused malformed (c .mark) | y ∷ ys ↦ done y (record { offset = i .offset + 1; rest = ys; first-mod = i .first-mod }) ]) (done b j)
+          → _≡_ {A = Read ℕ} (elim r [ [] ↦ refused malformed (place-at (c .mark)) | y ∷ ys ↦ done y (record { offset = i .offset + 1; rest = ys; first-mod = i .first-mod }) ]) (done b j)
           → IsByte b × AreBytes (j .rest)
       go c i b j [] x h = absurd (not-done h)
       go c i b j (y ∷ ys) x h = (rw (← same-value h) (x 0), rw (← same-input h) (λ n. x (suc n)))
@@ -128,7 +129,7 @@ module _ {k : ℕ} where
   yields-bytes n = yields-times n yields-next
 
   yields-loc : Yields k ValidLoc loc
-  yields-loc = weaken (λ l p. p .1) (yields-bytes loc-width)
+  yields-loc = weaken (λ l p. record { width = p .1 }) (yields-bytes loc-width)
 
   yields-name : Yields k ValidName name
   unfolding counted
@@ -184,8 +185,8 @@ module _ {k : ℕ} where
   unfolding marked
   yields-marked {A} {P} {es} s = record { yields = λ c i b j q x h. all .yields _ i b j q x h }
     where
-      all : Yields k P (bytes 2 >>= λ x. choose x es)
-      all = yields-bind (yields-bytes 2) λ x _. yields-choose x s
+      all : Yields k P (bytes mark-width >>= λ x. choose x es)
+      all = yields-bind (yields-bytes mark-width) λ x _. yields-choose x s
 
   yields-sexp-rule : (d : ℕ) (cons : Reader Sexp) → Yields k (λ s. SexpFields s × (cons-depth s ≤ d)) cons → Yields k (λ s. SexpFields s × (cons-depth s ≤ d)) (sexp-rule cons)
   unfolding sexp-rule SexpFields cons-depth

@@ -1,10 +1,10 @@
 -- What each view says follows from the ends of the fields before. Assumes nothing.
-use mathlib.Core.Path.{_≡_, refl}
+use mathlib.Core.Path.{_≡_, refl, _∙_}
 use mathlib.Core.List.{List, [], _∷_, _++_, flatten}
 use Prim.Native.Nat.{ℕ, _+_, _^_, _≤_, _<_}
 use Prim.Native.String.{String}
 use native.Mathlib.Omega.{arith}
-use lib.ListN.{length, take, drop, length-append}
+use lib.ListN.{length, take, drop, getD, length-append}
 use Rattle.names.specs.Names.{Bytes, ascii, number-field, number-of, name-width, name-field}
 use Rattle.names.proofs.Fields.{number-field-length}
 use Rattle.names.proofs.Numbers.{number-at}
@@ -12,15 +12,16 @@ use Rattle.names.specs.Segments.{At}
 use Rattle.records.specs.Depth.{depth}
 use Rattle.records.specs.Limits.{level-limit, cons-limit, lambda-limit}
 use Rattle.records.specs.Read.{kind-of}
-use Rattle.records.specs.Records.{loc-width, integer-width, integer-field, byte, record-bytes, Kind, Parallel, Sequential, Assign, kind-field, Pattern, Name, Complex, pattern-field, Tail, no-tail, tail, tail-bytes, sexp-bytes, body-bytes, binding-bytes, helper-bytes, form-bytes, bodies-count, bindings-count, helpers-count}
-use Rattle.records.specs.Valid.{SexpFields, cons-depth, BodyFields, BindingFields, HelperFields, FormFields, lambda-depth}
+use Rattle.records.specs.Records.{head-width, mark-width, loc-width, integer-width, integer-field, byte, record-bytes, Kind, Parallel, Sequential, Assign, kind-field, Pattern, Name, Complex, pattern-field, Tail, no-tail, tail, tail-bytes, sexp-bytes, body-bytes, binding-bytes, helper-bytes, form-bytes, bodies-count, bindings-count, helpers-count}
+use Rattle.records.specs.Valid.{ValidLoc, SexpFields, cons-depth, BodyFields, BindingFields, HelperFields, FormFields, lambda-depth}
 use Rattle.records.specs.declared.Family.the-variants.{Body as a-body}
 use Rattle.records.specs.Parts.{Part, Past, fixed-part, name-part, raw-part, keyword-part, hint-part, pattern-part, sexp-part, family-part}
-use Rattle.records.specs.Views.{Stands, Closes, PastHead, mark-width, SeesCall, SeesLet, SeesBinding, SeesLambda, SeesMod, SeesQuote, SeesValue, SeesForm, PastNamed, PastArgs, SeesFunction, SeesConstant, SeesMacro, SeesNamespace, SeesReference, SeesCons, SeesAtom, counted-field, SeesCounted, SeesName, SeesInteger, TaggedAt, PatternAt, TailAt, SeesTagged}
+use Rattle.records.specs.Views.{Stands, Closes, PastHead, SeesCall, SeesLet, SeesBinding, SeesLambda, SeesMod, SeesQuote, SeesValue, SeesForm, PastNamed, PastArgs, SeesFunction, SeesConstant, SeesMacro, SeesNamespace, SeesReference, SeesCons, SeesAtom, counted-field, SeesCounted, SeesName, SeesInteger, TaggedAt, PatternAt, TailAt, SeesTagged}
 use Rattle.records.specs.declared.NameView.{NameView}
 use Rattle.records.specs.declared.NamedView.{NamedView}
 use Rattle.records.specs.declared.ArgsView.{ArgsView}
 use Rattle.names.proofs.Places.{at-left, at-right}
+use Rattle.records.proofs.Places.{byte-there}
 
 module _ {s : Bytes} {p : ℕ} {f : Bytes} {fs : List Bytes} where
   -- the first field, and those after it
@@ -43,24 +44,26 @@ step k t v h = rw (k .past t v (first-of h)) (rest-of h)
 
 -- mark and L
 module _ {s : Bytes} where
-  pub head-short : length s < mark-width + loc-width → PastHead s (length s)
+  pub head-short : length s < head-width → PastHead s (length s)
   unfolding flatten
   head-short h =
-      let none : (m l : Bytes) (fs : List Bytes) → length m ≡ mark-width → length l ≡ loc-width → Stands s 0 (m ∷ l ∷ fs) → ⊥ =
+      let none : (m l : Bytes) (fs : List Bytes) → length m ≡ mark-width → ValidLoc l → Stands s 0 (m ∷ l ∷ fs) → ⊥ =
       λ m l fs q v k. omega (arith, rest-of k .there .fits, length-append l (flatten fs)) in
       record {
         within = omega arith;
         moved = λ p. p;
+        missing = λ _. refl;
         past = λ m l fs q v k. absurd (none m l fs q v k);
         ends = λ m l fs q v k. absurd (none m l fs q v k);
       }
 
-  pub head-there : mark-width + loc-width ≤ length s → PastHead s (mark-width + loc-width)
+  pub head-there : head-width ≤ length s → PastHead s (head-width)
   head-there h = record {
     within = h;
     moved = λ p. omega arith;
-    past = λ m l fs q v k. rw (q, v) at (rest-of (rest-of k));
-    ends = λ m l fs q v k. omega (arith, q, v);
+    missing = λ g. absurd (omega arith);
+    past = λ m l fs q v k. rw (q, v .width) at (rest-of (rest-of k));
+    ends = λ m l fs q v k. omega (arith, q, v .width);
   }
 
 -- the fields that are left of a record after its mark, after its mark and L, and after the first of them
@@ -72,7 +75,7 @@ module _ {s : Bytes} {r : ℕ} (m : String) where
       let q = k .past (ascii m) e (first-of h) in
       record { there = step k (ascii m) e h; moved = omega (arith, q, e); whole = omega (arith, q, length-append (ascii m) (flatten fs)) }
 
-  pub close-head : PastHead s r → (l : Bytes) (fs : List Bytes) → length (ascii m) ≡ mark-width → length l ≡ loc-width → At s 0 (record-bytes m (l ∷ fs))
+  pub close-head : PastHead s r → (l : Bytes) (fs : List Bytes) → length (ascii m) ≡ mark-width → ValidLoc l → At s 0 (record-bytes m (l ∷ fs))
       → Closes s r fs (length (record-bytes m (l ∷ fs)))
   unfolding record-bytes flatten
   close-head x l fs e v a =
@@ -89,14 +92,17 @@ close-step k t v h = close-on _ (k .past t v (first-of (h .there))) h
 
 -- the byte at a place
 abbrev pub ByteAt : Bytes → ℕ → ℕ → Type 0
-ByteAt s at r = (b : ℕ) → At s at (byte b) → r ≡ b
+ByteAt s at r = r ≡ getD s at 0
+
+pub byte-is : {s : Bytes} {at r : ℕ} → ByteAt s at r → (b : ℕ) → At s at (byte b) → r ≡ b
+byte-is h b a = h ∙ byte-there b a
 
 -- the kind byte of a let
 pub kind-at : {s : Bytes} {at r : ℕ} → ByteAt s at r → (k : Kind) → At s at (kind-field k) → kind-of r ≡ k
 unfolding kind-of kind-field
-kind-at h Parallel a = rw (h 0 a)
-kind-at h Sequential a = rw (h 1 a)
-kind-at h Assign a = rw (h 2 a)
+kind-at h Parallel a = rw (byte-is h 0 a)
+kind-at h Sequential a = rw (byte-is h 1 a)
+kind-at h Assign a = rw (byte-is h 2 a)
 
 pub kind-length : (k : Kind) → length (kind-field k) ≡ 1
 unfolding kind-field byte
@@ -117,18 +123,22 @@ module _ {s : Bytes} (at w : ℕ) where
       let f = number-field w (length n) in
       (rw number-field-length at (at-right f n a), number-at w (length n) v (at-left f n a))
 
-  pub sees-none : length s < at + w + number-of (take w (drop at s)) → SeesCounted w s at (record { start = length s; end = length s })
-  sees-none h = record {
+  pub sees-none : at ≤ length s → length s < at + w + number-of (take w (drop at s)) → SeesCounted w s at (record { start = length s; end = length s })
+  sees-none le h = record {
+    onward = le;
     forward = omega arith;
     within = omega arith;
+    missing = λ _. (refl, refl);
     sees = λ n v a. let q = counted-at n v a in absurd (omega (arith, q .0 .fits, q .1));
   }
 
   pub sees-counted : {k : ℕ} → k ≡ number-of (take w (drop at s)) → at + w + k ≤ length s → SeesCounted w s at (record { start = at + w; end = at + w + k })
   unfolding counted-field
   sees-counted e h = record {
+    onward = omega arith;
     forward = omega arith;
     within = h;
+    missing = λ l. absurd (omega (arith, e));
     sees = λ n v a.
         let q = counted-at n v a in
         let f = number-field w (length n) in
@@ -138,11 +148,11 @@ module _ {s : Bytes} (at w : ℕ) where
 module _ {s : Bytes} {at : ℕ} {v : NameView} where
   pub sees-name : SeesCounted name-width s at v → SeesName s at v
   unfolding counted-field name-field
-  sees-name h = record { forward = h .forward; within = h .within; sees = λ n f a. h .sees n (omega arith) a }
+  sees-name h = record { onward = h .onward; forward = h .forward; within = h .within; missing = h .missing; sees = λ n f a. h .sees n (omega arith) a }
 
   pub sees-integer : SeesCounted integer-width s at v → SeesInteger s at v
   unfolding counted-field integer-field
-  sees-integer h = record { forward = h .forward; within = h .within; sees = λ n f a. h .sees n (f .1) a }
+  sees-integer h = record { onward = h .onward; forward = h .forward; within = h .within; missing = h .missing; sees = λ n f a. h .sees n (f .1) a }
 
 -- a byte that says what follows
 module _ {s : Bytes} {at tag next : ℕ} (h : ByteAt s at tag) (x : Past (fixed-part 1) s at next) where
@@ -150,7 +160,7 @@ module _ {s : Bytes} {at tag next : ℕ} (h : ByteAt s at tag) (x : Past (fixed-
   unfolding byte
   tagged b bs a =
       let f = at-left (b ∷ []) bs a in
-      record { tag = h b f; next = rw (x .past (b ∷ []) refl f) (at-right (b ∷ []) bs a) }
+      record { tag = byte-is h b f; next = rw (x .past (b ∷ []) refl f) (at-right (b ∷ []) bs a) }
 
   tagged-pattern : (p : Pattern) → At s at (pattern-field p) → PatternAt s (record { tag = tag; next = next }) p
   unfolding pattern-field PatternAt
@@ -159,7 +169,7 @@ module _ {s : Bytes} {at tag next : ℕ} (h : ByteAt s at tag) (x : Past (fixed-
 
   tagged-tail : (t : Tail) → At s at (tail-bytes t) → TailAt s (record { tag = tag; next = next }) t
   unfolding tail-bytes TailAt byte
-  tagged-tail no-tail a = h 0 a
+  tagged-tail no-tail a = byte-is h 0 a
   tagged-tail (tail b) a = tagged 1 (body-bytes b) a
 
   pub sees-tagged : SeesTagged s at (record { tag = tag; next = next })
@@ -172,7 +182,7 @@ module _ {s : Bytes} {at first count : ℕ} where
     within = y .within;
     sees = λ l bs t v a.
         let h = x .past (ascii "BC") l _ refl (v .0 .0) (opened "BC" _ a) in
-        record { count = c _ (first-of h); rest = step y _ (byte-length (bodies-count bs)) h };
+        record { count = byte-is c _ (first-of h); rest = step y _ (byte-length (bodies-count bs)) h };
     closes = λ l bs t v a. close-step y _ (byte-length (bodies-count bs)) (close-head "BC" x l _ refl (v .0 .0) a);
   }
 
@@ -186,7 +196,7 @@ module _ {s : Bytes} {m kind loc keyword hint at count first : ℕ} where
     sees = λ k l w h bs b v a.
         let hk = step xm (ascii "BL") refl (opened "BL" _ a) in
         let hl = step xk (kind-field k) (kind-length k) hk in
-        let hw = step xl l (v .0 .0) hl in
+        let hw = step xl l (v .0 .0 .width) hl in
         let hh = step xw w (v .0 .1) hw in
         let hc = step xh h (v .0 .2) hh in
         record {
@@ -194,12 +204,12 @@ module _ {s : Bytes} {m kind loc keyword hint at count first : ℕ} where
           loc = first-of hl;
           keyword = first-of hw;
           hint = first-of hh;
-          count = bc _ (first-of hc);
+          count = byte-is bc _ (first-of hc);
           rest = step xc _ (byte-length (bindings-count bs)) hc;
         };
     closes = λ k l w h bs b v a.
         let hl = close-step xk (kind-field k) (kind-length k) (close-mark "BL" xm _ refl a) in
-        close-step xc _ (byte-length (bindings-count bs)) (close-step xh h (v .0 .2) (close-step xw w (v .0 .1) (close-step xl l (v .0 .0) hl)));
+        close-step xc _ (byte-length (bindings-count bs)) (close-step xh h (v .0 .2) (close-step xw w (v .0 .1) (close-step xl l (v .0 .0 .width) hl)));
   }
 
 module _ {s : Bytes} {at pattern body : ℕ} where
@@ -209,7 +219,7 @@ module _ {s : Bytes} {at pattern body : ℕ} where
     pattern-within = xl .within;
     body-within = xp .within;
     sees = λ l nl p b v a.
-        let hp = step xl nl (v .0 .1) (x .past (ascii "BB") l _ refl (v .0 .0) (opened "BB" _ a)) in
+        let hp = step xl nl (v .0 .1 .width) (x .past (ascii "BB") l _ refl (v .0 .0) (opened "BB" _ a)) in
         record { pattern = first-of hp; body = first-of (step xp p (v .0 .2) hp) };
   }
 
@@ -260,7 +270,7 @@ module _ {s : Bytes} {raw args at count first : ℕ} where
       let hr = x .past (ascii "CF") l _ refl (v .0 .0) (opened "CF" _ e) in
       let ha = step xr r (v .0 .1) hr in
       let hc = step xa a (v .0 .2) ha in
-      record { raw = first-of hr; args = first-of ha; count = bc _ (first-of hc); rest = step xc _ (byte-length (helpers-count hs)) hc }
+      record { raw = first-of hr; args = first-of ha; count = byte-is bc _ (first-of hc); rest = step xc _ (byte-length (helpers-count hs)) hc }
 
 module _ {s : Bytes} {at raw next : ℕ} where
   pub past-named : Past name-part s at raw → Past raw-part s raw next → PastNamed s at (record { name = at; raw = raw; next = next })
@@ -293,7 +303,7 @@ module _ {s : Bytes} {at : ℕ} {v : NamedView} where
   unfolding ascii helper-bytes HelperFields
   sees-namespace x y bc xc l n r hs f a =
       let w = y .past n r _ (f .0 .1) (f .0 .2) (x .past (ascii "HN") l _ refl (f .0 .0) (opened "HN" _ a)) in
-      record { name = w .name; raw = w .raw; count = bc _ (first-of (w .rest)); rest = first-of (step xc _ (byte-length (helpers-count hs)) (w .rest)) }
+      record { name = w .name; raw = w .raw; count = byte-is bc _ (first-of (w .rest)); rest = first-of (step xc _ (byte-length (helpers-count hs)) (w .rest)) }
 
 module _ {s : Bytes} {at : ℕ} {v : ArgsView} where
   pub sees-macro : PastHead s at → PastArgs s at v → SeesMacro s v

@@ -7,6 +7,8 @@ use lib.Dec.{leb}
 use lib.ListN.{length}
 use Rattle.names.specs.Names.{Bytes}
 use Rattle.names.specs.Answers.{max-counter}
+use Rattle.names.specs.Refusals.{place-at, refusing, placeless}
+use Rattle.names.specs.declared.Refusal.{Refusal}
 use Rattle.records.specs.Limits.{least-longest, most-longest, work-factor}
 use Rattle.records.specs.Read.{Reader, Whole, whole, unread, fault-number, read-whole}
 
@@ -17,21 +19,21 @@ limits F work c = leb least-longest F && leb F most-longest && leb (work-factor 
 -- the record of an input, or the first of the refusals 1, 3 by length, 2 and 3 by reading, 4
 pub data Opened (A : Type 0) : Type 0 where
   opened : A → Opened A
-  closed : ℕ → ℕ → Opened A
+  closed : Refusal → Opened A
 
 module _ {A : Type 0} where
   -- 4: a BM in a binding body of an assign
   unfoldable pub no-mod : Whole A → Opened A
   no-mod (whole a none) = opened a
-  no-mod (whole a (some p)) = closed 4 p
-  no-mod (unread f p) = closed (fault-number f) p
+  no-mod (whole a (some p)) = closed (refusing 4 (place-at p))
+  no-mod (unread f p) = closed (refusing (fault-number f) p)
 
   -- the refusals in their order
   unfoldable pub open-input : Reader A → ℕ → ℕ → ℕ → Bytes → Opened A
   open-input reader F work c input =
       elim (limits F work c) [
-        | false ↦ closed 1 0
-        | true ↦ elim (leb (length input) F) [ false ↦ closed 3 0 | true ↦ no-mod (read-whole reader input) ]
+        | false ↦ closed (placeless 1)
+        | true ↦ elim (leb (length input) F) [ false ↦ closed (placeless 3) | true ↦ no-mod (read-whole reader input) ]
       ]
 
 -- unfolds with every definition of this file

@@ -1,19 +1,18 @@
 -- What can be stepped over: the trees of each kind, their bytes, and which of them are within the format's limits.
 -- Assumes nothing.
 use mathlib.Core.Path.{_≡_}
-use mathlib.Core.List.{List, _++_}
-use Prim.Native.Nat.{ℕ, _+_, _≤_}
+use mathlib.Core.List.{List}
+use Prim.Native.Nat.{ℕ, _+_, _≤_, _<_}
 use lib.ListN.{length}
 use Rattle.names.specs.Names.{Bytes, name-field}
 use Rattle.names.specs.Segments.{At}
 use Rattle.records.specs.declared.Family.{Family}
 use Rattle.records.specs.declared.Family.the-variants.{Body as a-body, Binding as a-binding, Helper as a-helper, Form as a-form}
-use Rattle.records.specs.declared.Scan.{Scan}
 use Rattle.records.specs.Depth.{bodies-depth, binding-depth, bindings-depth, helpers-depth}
 use Rattle.records.specs.Lists.{joined, Each}
 use Rattle.records.specs.Limits.{level-limit, lambda-limit}
-use Rattle.records.specs.Records.{integer-field, Sexp, sexp-bytes, Pattern, pattern-field, Body, body-bytes, Bodies, bodies-bytes, bodies-count, Binding, binding-bytes, Bindings, bindings-bytes, bindings-count, Helper, helper-bytes, Helpers, helpers-bytes, helpers-count, Form, form-bytes}
-use Rattle.records.specs.Valid.{ValidName, ValidInteger, ValidRaw, ValidKeyword, ValidHint, ValidSexp, ValidPattern, BodiesFields, BindingFields, BindingsFields, HelpersFields, bodies-lambda-depth, binding-lambda-depth, bindings-lambda-depth, helpers-lambda-depth, ValidBody, ValidHelper, ValidForm}
+use Rattle.records.specs.Records.{Sexp, sexp-bytes, Pattern, pattern-field, Body, body-bytes, Bodies, bodies-bytes, bodies-count, Binding, binding-bytes, Bindings, bindings-bytes, bindings-count, Helper, helper-bytes, Helpers, helpers-bytes, helpers-count, Form, form-bytes}
+use Rattle.records.specs.Valid.{ValidName, ValidRaw, ValidKeyword, ValidHint, SexpFields, ValidSexp, ValidPattern, BodiesFields, BindingFields, BindingsFields, HelpersFields, bodies-lambda-depth, binding-lambda-depth, bindings-lambda-depth, helpers-lambda-depth, ValidBody, ValidHelper, ValidForm}
 
 -- trees, their bytes, and which of them are meant
 abbrev pub Part : Type 1
@@ -30,19 +29,19 @@ family-part a-binding = (Binding, binding-bytes, ValidBinding)
 family-part a-helper = (Helper, helper-bytes, ValidHelper)
 family-part a-form = (Form, form-bytes, ValidForm)
 
--- S records
+-- S records; and S records of any depth
 abbrev pub sexp-part : Part
 sexp-part = (Sexp, sexp-bytes, ValidSexp)
 
--- the fields: so many bytes, a name, an integer, R, K, a hint, a pattern
+abbrev pub fields-part : Part
+fields-part = (Sexp, sexp-bytes, SexpFields)
+
+-- the fields: so many bytes, a name, R, K, a hint, a pattern
 abbrev pub fixed-part : ℕ → Part
 fixed-part w = (Bytes, (λ x. x), λ x. length x ≡ w)
 
 abbrev pub name-part : Part
 name-part = (Bytes, name-field, ValidName)
-
-abbrev pub integer-part : Part
-integer-part = (Bytes, integer-field, ValidInteger)
 
 abbrev pub raw-part : Part
 raw-part = (Bytes, (λ x. x), ValidRaw)
@@ -73,7 +72,7 @@ helpers-part n = (Helpers, helpers-bytes, λ hs. (helpers-count hs ≡ n) × Hel
 -- r is the length of the tree whose bytes s starts with, whatever follows
 pub record Skips (p : Part) (s : Bytes) (r : ℕ) : Type 0 where
   pub within : r ≤ length s
-  pub skips : (t : p .0) (more : Bytes) → p .2 t → s ≡ p .1 t ++ more → r ≡ length (p .1 t)
+  pub skips : (t : p .0) → p .2 t → At s 0 (p .1 t) → r ≡ length (p .1 t)
 
 -- r is where the tree ends whose bytes stand in s from `at` on, and in no case before `at`
 pub record Past (p : Part) (s : Bytes) (at r : ℕ) : Type 0 where
@@ -81,6 +80,7 @@ pub record Past (p : Part) (s : Bytes) (at r : ℕ) : Type 0 where
   pub onward : at ≤ r
   pub past : (t : p .0) → p .2 t → At s at (p .1 t) → r ≡ at + length (p .1 t)
 
--- a reading that has come to a place
-abbrev pub from-place : ℕ → Scan
-from-place at = record { at = at; number = 0; place = 0; first = 0 }
+-- r is n bytes further on; where they are missing, the end of the bytes
+pub record PastBytes (n : ℕ) (s : Bytes) (at r : ℕ) : Type 0 where
+  pub past : Past (fixed-part n) s at r
+  pub missing : length s < at + n → r ≡ length s

@@ -7,11 +7,13 @@ use Prim.Native.Nat.{ℕ, zero, suc, _+_, _-_}
 use Prim.Native.String.{String}
 use lib.Dec.{eqb, leb, ltb}
 use Rattle.names.specs.Names.{Bytes, ascii, same, number-of, name-width}
+use Rattle.names.specs.Refusals.{place-at}
+use Rattle.names.specs.declared.Place.{Place}
 pub use Rattle.records.specs.declared.Context.{Context}
 pub use Rattle.records.specs.declared.Zone.{Zone}
 pub use Rattle.records.specs.declared.Zone.the-variants.{Plain, InBinding, InMod}
 use Rattle.records.specs.Limits.{level-limit, cons-limit, lambda-limit, count-limit}
-use Rattle.records.specs.Records.{Loc, loc-width, raw-width, integer-width, Sexp, SN, SC, SI, SQ, SA, Kind, Parallel, Sequential, Assign, Pattern, Name, Complex, Body, BL, BQ, BV, BC, BM, BF, Tail, no-tail, tail, Binding, BB, Helper, HC, HM, HD, HN, HR, Form, CF, to-bodies, to-bindings, to-helpers}
+use Rattle.records.specs.Records.{mark-width, Loc, loc-width, raw-width, integer-width, Sexp, SN, SC, SI, SQ, SA, Kind, Parallel, Sequential, Assign, Pattern, Name, Complex, Body, BL, BQ, BV, BC, BM, BF, Tail, no-tail, tail, Binding, BB, Helper, HC, HM, HD, HN, HR, Form, CF, to-bodies, to-bindings, to-helpers}
 
 -- offset of the next byte; the bytes left; offset of the first BM met in a binding body of an assign
 pub record Input : Type 0 where
@@ -31,7 +33,7 @@ fault-number over-limit = 3
 -- or a fault, and its place
 pub data Read (A : Type 0) : Type 0 where
   done : A → Input → Read A
-  refused : Fault → ℕ → Read A
+  refused : Fault → Place → Read A
 
 abbrev pub Reader : Type 0 → Type 0
 Reader A = Context → Input → Read A
@@ -54,11 +56,11 @@ module _ {A : Type 0} where
 
   -- a fault, at the innermost mark
   unfoldable pub refuse : Fault → Reader A
-  refuse n c i = refused n (c .mark)
+  refuse n c i = refused n (place-at (c .mark))
 
   -- a test of what was just read
   unfoldable pub check : Fault → Bool → Reader A → Reader A
-  check n ok m c i = elim ok [ true ↦ m c i | false ↦ refused n (c .mark) ]
+  check n ok m c i = elim ok [ true ↦ m c i | false ↦ refused n (place-at (c .mark)) ]
 
 module _ {A : Type 0} where
   -- so many of the same
@@ -71,11 +73,11 @@ module _ {A : Type 0} where
 
   -- the levels that the record read by m takes
   unfoldable pub deeper : ℕ → Reader A → Reader A
-  deeper n m c i = elim (leb n (c .room)) [ true ↦ m (record { mark = c .mark; room = c .room - n; lambdas = c .lambdas; zone = c .zone }) i | false ↦ refused over-limit (c .mark) ]
+  deeper n m c i = elim (leb n (c .room)) [ true ↦ m (record { mark = c .mark; room = c .room - n; lambdas = c .lambdas; zone = c .zone }) i | false ↦ refused over-limit (place-at (c .mark)) ]
 
   -- inside one BF more
   unfoldable pub in-lambda : Reader A → Reader A
-  in-lambda m c i = elim (leb 1 (c .lambdas)) [ true ↦ m (record { mark = c .mark; room = c .room; lambdas = c .lambdas - 1; zone = c .zone }) i | false ↦ refused over-limit (c .mark) ]
+  in-lambda m c i = elim (leb 1 (c .lambdas)) [ true ↦ m (record { mark = c .mark; room = c .room; lambdas = c .lambdas - 1; zone = c .zone }) i | false ↦ refused over-limit (place-at (c .mark)) ]
 
   -- inside another zone
   unfoldable pub in-zone : Zone → Reader A → Reader A
@@ -83,7 +85,7 @@ module _ {A : Type 0} where
 
 -- one byte
 unfoldable pub next : Reader ℕ
-next c i = elim (i .rest) [ [] ↦ refused malformed (c .mark) | b ∷ bs ↦ done b (record { offset = i .offset + 1; rest = bs; first-mod = i .first-mod }) ]
+next c i = elim (i .rest) [ [] ↦ refused malformed (place-at (c .mark)) | b ∷ bs ↦ done b (record { offset = i .offset + 1; rest = bs; first-mod = i .first-mod }) ]
 
 -- so many bytes
 unfoldable pub bytes : ℕ → Reader Bytes
@@ -97,7 +99,7 @@ module _ {A : Type 0} where
 
   -- a record: a mark of the list, and then what stands with it
   unfoldable pub marked : List (String × Reader A) → Reader A
-  marked es c i = (bytes 2 >>= λ m. choose m es) (record { mark = i .offset; room = c .room; lambdas = c .lambdas; zone = c .zone }) i
+  marked es c i = (bytes mark-width >>= λ m. choose m es) (record { mark = i .offset; room = c .room; lambdas = c .lambdas; zone = c .zone }) i
 
 -- L
 abbrev pub loc : Reader Loc
@@ -426,19 +428,23 @@ assign-of = marked (("BL", deeper 1 (next >>= λ k. check malformed (eqb k 2) (l
 -- what a whole input holds: the tree, and the first BM in a binding body of an assign
 pub data Whole (A : Type 0) : Type 0 where
   whole : A → Option ℕ → Whole A
-  unread : Fault → ℕ → Whole A
+  unread : Fault → Place → Whole A
 
 -- 2 where bytes are left over
 unfoldable pub left-over : {A : Type 0} → A → Input → Whole A
-left-over a i = elim (i .rest) [ [] ↦ whole a (i .first-mod) | b ∷ bs ↦ unread malformed (i .offset) ]
+left-over a i = elim (i .rest) [ [] ↦ whole a (i .first-mod) | b ∷ bs ↦ unread malformed (place-at (i .offset)) ]
+
+-- the context of a record that stands in no other
+abbrev pub outermost : Context
+outermost = record { mark = 0; room = level-limit; lambdas = lambda-limit; zone = Plain }
+
+-- nothing is read yet
+abbrev pub from-first : Bytes → Input
+from-first bs = record { offset = 0; rest = bs; first-mod = none }
 
 -- a whole input
 unfoldable pub read-whole : {A : Type 0} → Reader A → Bytes → Whole A
-read-whole m bs =
-    elim (m (record { mark = 0; room = level-limit; lambdas = lambda-limit; zone = Plain }) (record { offset = 0; rest = bs; first-mod = none })) [
-      | done a i ↦ left-over a i
-      | refused n p ↦ unread n p
-    ]
+read-whole m bs = elim (m outermost (from-first bs)) [ done a i ↦ left-over a i | refused f p ↦ unread f p ]
 
 -- unfolds with every definition of this file
 unfoldable pub computing-read : Unit {0}

@@ -2,7 +2,7 @@
 -- docs/FORMAT.md, 'Records'.
 -- Assumes nothing.
 use mathlib.Core.List.{List, [], _∷_, _++_, flatten}
-use Prim.Native.Nat.{ℕ, suc}
+use Prim.Native.Nat.{ℕ, suc, _+_}
 use Prim.Native.String.{String}
 use lib.ListN.{length}
 use Rattle.names.specs.Names.{Bytes, ascii, number-field, name-field, number-of}
@@ -10,9 +10,17 @@ use Rattle.names.specs.Names.{Bytes, ascii, number-field, name-field, number-of
 infixr 67 _∷ᵇ_
 infixr 67 _∷ᵍ_
 infixr 67 _∷ʰ_
+-- the bytes of a mark
+abbrev pub mark-width : ℕ
+mark-width = 2
+
 -- the bytes of a location
 abbrev pub loc-width : ℕ
 loc-width = 4
+
+-- the bytes of a mark and a location, with which a record starts
+abbrev pub head-width : ℕ
+head-width = mark-width + loc-width
 
 -- the bytes of the count that stands before a number
 abbrev pub integer-width : ℕ

@@ -8,6 +8,8 @@ use Prim.Native.Nat.{ℕ, zero, suc, _+_, _-_, _≤_}
 use Prim.Native.String.{String}
 use lib.ListN.{length, drop}
 use Rattle.names.specs.Names.{Bytes, ascii, same}
+use Rattle.names.specs.Refusals.{refusing, no-refusal}
+use Rattle.names.specs.declared.Place.{Place}
 use Rattle.records.specs.declared.Scan.{Scan}
 use Rattle.records.specs.declared.Family.{Family}
 use Rattle.records.specs.declared.Family.the-variants.{Body as a-body, Binding as a-binding, Helper as a-helper, Form as a-form}
@@ -15,10 +17,10 @@ use Rattle.records.specs.declared.Wanted.{Wanted}
 use Rattle.records.specs.declared.Wanted.the-variants.{Form as a-whole-form, Helper as a-single-helper, Assign as an-assign}
 use Rattle.records.specs.declared.Opening.{Opening}
 use Rattle.records.specs.declared.Opening.the-variants.{Accepted, Refused}
-use Rattle.records.specs.Limits.{level-limit, lambda-limit}
+use Rattle.records.specs.Limits.{level-limit}
 use Rattle.records.specs.Opened.{Opened, opened, closed}
 use Rattle.records.specs.Records.{Body, Tail, Binding, Helper, Form}
-use Rattle.records.specs.Read.{Context, Input, Read, done, refused, fault-number, Reader, _>>=_, Zone, Plain, Readers, assign-of, times, count, binding, readers, kind-of, let-of, call-tail, in-lambda, lambda-after}
+use Rattle.records.specs.Read.{Context, Input, Read, done, refused, fault-number, Reader, _>>=_, Zone, Readers, assign-of, times, count, binding, readers, kind-of, let-of, call-tail, in-lambda, lambda-after}
 
 -- the place of a mark among these, or their number
 unfoldable pub mark-index : Bytes → List String → ℕ
@@ -92,13 +94,13 @@ mod-offset zero = none
 mod-offset (suc p) = some p
 
 -- a refusal among n bytes stands at their end
-abbrev pub refusal : ℕ → ℕ → ℕ → Scan
-refusal n number place = record { at = n; number = number; place = place; first = 0 }
+abbrev pub refused-scan : ℕ → ℕ → Place → Scan
+refused-scan n number place = record { at = n; refusal = refusing number place; first = 0 }
 
 -- where a reader brings the reading c of the n bytes from the mark on: further on, or to its refusal
 unfoldable pub scan-of : {A : Type 0} → ℕ → ℕ → Scan → Read A → Scan
-scan-of mark n c (done a j) = record { at = j .offset - mark; number = c .number; place = c .place; first = mod-number (j .first-mod) }
-scan-of mark n c (refused f p) = refusal n (fault-number f) p
+scan-of mark n c (done a j) = record { at = j .offset - mark; refusal = c .refusal; first = mod-number (j .first-mod) }
+scan-of mark n c (refused f p) = refused-scan n (fault-number f) p
 
 -- the input that a reading c of the bytes s, from the mark on, has come to
 unfoldable pub input-at : ℕ → Bytes → Scan → Input
@@ -106,7 +108,7 @@ input-at mark s c = record { offset = mark + c .at; rest = drop (c .at) s; first
 
 -- m goes on from the reading c; a refused reading stays as it is
 unfoldable pub goes-on : {A : Type 0} → Reader A → Context → Bytes → Scan → Scan
-goes-on m x s c = elim (c .number) [ zero ↦ scan-of (x .mark) (length s) c (m x (input-at (x .mark) s c)) | suc n ↦ c ]
+goes-on m x s c = elim (c .refusal .number) [ zero ↦ scan-of (x .mark) (length s) c (m x (input-at (x .mark) s c)) | suc n ↦ c ]
 
 -- r is where m comes from the reading c of the bytes s, in the context x
 pub record Comes {A : Type 0} (m : Reader A) (x : Context) (s : Bytes) (c r : Scan) : Type 0 where
@@ -123,12 +125,12 @@ pub record Goes (m : ℕ → AnyReader) (x : Context) (s : Bytes) (c r : Scan) :
   pub enough : (fuel : ℕ) → x .room ≤ fuel → Comes (m fuel .1) x s c r
   pub within : r .at ≤ length s
 
--- where a whole input is read from
-abbrev pub outermost : Context
-outermost = record { mark = 0; room = level-limit; lambdas = lambda-limit; zone = Plain }
+-- a reading that has come to a place, and one that starts
+abbrev pub from-place : ℕ → Scan
+from-place at = record { at = at; refusal = no-refusal; first = 0 }
 
 abbrev pub first-scan : Scan
-first-scan = record { at = 0; number = 0; place = 0; first = 0 }
+first-scan = from-place 0
 
 -- the reader of the record that a call wants
 abbrev pub wanted-reader : Wanted → AnyReader
@@ -139,4 +141,4 @@ wanted-reader an-assign = (Body, assign-of)
 -- the code's answer to an input that is opened or refused
 abbrev pub opening-of : {A : Type 0} → Opened A → Opening
 opening-of (opened a) = Accepted
-opening-of (closed n p) = Refused n p
+opening-of (closed r) = Refused r

@@ -21,9 +21,9 @@ IsByte n = n < 256
 abbrev pub AreBytes : Bytes → Type 0
 AreBytes bs = (i : ℕ) → IsByte (getD bs i 0)
 
--- L has its width
-abbrev pub ValidLoc : Loc → Type 0
-ValidLoc l = length l ≡ loc-width
+-- what is asked of L
+pub record ValidLoc (l : Loc) : Type 0 where
+  pub width : length l ≡ loc-width
 
 -- N is not too long
 abbrev pub ValidName : Bytes → Type 0

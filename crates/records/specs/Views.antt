@@ -3,11 +3,12 @@
 use mathlib.Core.Path.{_≡_}
 use mathlib.Core.List.{List, [], _∷_, _++_, flatten}
 use Prim.Native.Nat.{ℕ, _+_, _^_, _≤_, _<_}
-use lib.ListN.{length}
-use Rattle.names.specs.Names.{Bytes, number-field, name-field}
+use lib.ListN.{length, take, drop}
+use Rattle.names.specs.Names.{Bytes, number-of, number-field, name-width, name-field}
 use Rattle.names.specs.Segments.{At}
 use Rattle.records.specs.Read.{kind-of}
-use Rattle.records.specs.Records.{Loc, integer-field, Sexp, SN, SC, SI, SQ, SA, sexp-bytes, Kind, Pattern, Name, Complex, pattern-field, Body, BL, BQ, BV, BC, BM, BF, body-bytes, Bodies, bodies-bytes, bodies-count, Tail, no-tail, tail, tail-bytes, BB, binding-bytes, Bindings, bindings-bytes, bindings-count, HC, HM, HD, HN, HR, helper-bytes, Helpers, helpers-bytes, helpers-count, Form, CF, form-bytes}
+use Rattle.records.specs.Records.{mark-width, head-width, integer-width, Loc, integer-field, Sexp, SN, SC, SI, SQ, SA, sexp-bytes, Kind, Pattern, Name, Complex, pattern-field, Body, BL, BQ, BV, BC, BM, BF, body-bytes, Bodies, bodies-bytes, bodies-count, Tail, no-tail, tail, tail-bytes, BB, binding-bytes, Bindings, bindings-bytes, bindings-count, HC, HM, HD, HN, HR, helper-bytes, Helpers, helpers-bytes, helpers-count, Form, CF, form-bytes}
+use Rattle.records.specs.Scan.{mark-index, sexp-marks}
 use Rattle.records.specs.Valid.{ValidLoc, ValidName, ValidInteger, ValidRaw, SexpFields, ValidSexp, ValidBody, ValidHelper, ValidForm}
 use Rattle.records.specs.Parts.{Past, fixed-part, ValidBinding}
 use Rattle.records.specs.declared.NameView.{NameView}
@@ -22,10 +23,7 @@ use Rattle.records.specs.declared.ArgsView.{ArgsView}
 use Rattle.records.specs.declared.NamespaceView.{NamespaceView}
 use Rattle.records.specs.declared.ConsView.{ConsView}
 use Rattle.records.specs.declared.SexpView.{SexpView}
-
--- the bytes of a mark
-abbrev pub mark-width : ℕ
-mark-width = 2
+use Rattle.records.specs.declared.SexpView.the-variants.{Nil, Pair, Integer, Text, Atom, Unknown}
 
 -- fields stand in s one after the other from p on
 pub record Stands (s : Bytes) (p : ℕ) (fields : List Bytes) : Type 0 where
@@ -37,10 +35,11 @@ pub record Closes (s : Bytes) (p : ℕ) (fields : List Bytes) (n : ℕ) : Type 0
   pub moved : 0 < p
   pub whole : n ≡ p + length (flatten fields)
 
--- r is where the mark and the L end that s starts with
+-- r is where the mark and the L end that s starts with; where they are missing, the end of the bytes
 pub record PastHead (s : Bytes) (r : ℕ) : Type 0 where
   pub within : r ≤ length s
   pub moved : 0 < length s → 0 < r
+  pub missing : length s < head-width → r ≡ length s
   pub past : (m : Bytes) (l : Loc) (fields : List Bytes) → length m ≡ mark-width → ValidLoc l → Stands s 0 (m ∷ l ∷ fields) → Stands s r fields
   pub ends : (m : Bytes) (l : Loc) (fields : List Bytes) → length m ≡ mark-width → ValidLoc l → Stands s 0 (m ∷ l ∷ fields) → r ≡ length m + length l
 
@@ -50,10 +49,12 @@ pub record NameAt (s : Bytes) (v : NameView) (n : Bytes) (e : ℕ) : Type 0 wher
   pub ends : v .end ≡ v .start + length n
   pub past : v .end ≡ e
 
--- bytes that stand at a place after their length: where they start and end
-pub record SeesBytes (field : Bytes → Bytes) (Fits : Bytes → Type 0) (s : Bytes) (at : ℕ) (v : NameView) : Type 0 where
+-- bytes that stand at a place after their length of w bytes: where they start and end; where some are missing, none at the end of s
+pub record SeesBytes (w : ℕ) (field : Bytes → Bytes) (Fits : Bytes → Type 0) (s : Bytes) (at : ℕ) (v : NameView) : Type 0 where
+  pub onward : at ≤ v .start
   pub forward : v .start ≤ v .end
   pub within : v .end ≤ length s
+  pub missing : length s < at + w + number-of (take w (drop at s)) → (v .start ≡ length s) × (v .end ≡ length s)
   pub sees : (n : Bytes) → Fits n → At s at (field n) → NameAt s v n (at + length (field n))
 
 -- a length of w bytes, and that many bytes
@@ -61,14 +62,14 @@ unfoldable pub counted-field : ℕ → Bytes → Bytes
 counted-field w n = number-field w (length n) ++ n
 
 abbrev pub SeesCounted : ℕ → Bytes → ℕ → NameView → Type 0
-SeesCounted w = SeesBytes (counted-field w) (λ n. length n < 256 ^ w)
+SeesCounted w = SeesBytes w (counted-field w) (λ n. length n < 256 ^ w)
 
 -- a name, a number
 abbrev pub SeesName : Bytes → ℕ → NameView → Type 0
-SeesName = SeesBytes name-field ValidName
+SeesName = SeesBytes name-width name-field ValidName
 
 abbrev pub SeesInteger : Bytes → ℕ → NameView → Type 0
-SeesInteger = SeesBytes integer-field ValidInteger
+SeesInteger = SeesBytes integer-width integer-field ValidInteger
 
 -- a byte, and what follows it
 pub record TaggedAt (s : Bytes) (v : TaggedView) (b : ℕ) (bs : Bytes) : Type 0 where
@@ -215,27 +216,41 @@ SeesCons s v = (l : Loc) (h t : Sexp) → ValidSexp (SC l h t) → At s 0 (sexp-
 abbrev pub SeesAtom : Bytes → ℕ → Type 0
 SeesAtom s v = (l : Loc) (n : Bytes) → ValidSexp (SA l n) → At s 0 (sexp-bytes (SA l n)) → At s v (name-field n)
 
--- an SI, SQ or SA by its bytes
-abbrev pub leaf-of : NameView → SexpView
-leaf-of v = record { tag = 2; start = v .start; end = v .end }
+-- what a view says of the S record that s starts with: of an SN its end; of an SC where its head stands, with its tail behind; of an SI, SQ or SA
+-- its bytes, with which it ends
+pub data SexpAt (s : Bytes) : SexpView → Sexp → Type 0 where
+  nil-at : {l : Loc} {e : ℕ} → e ≡ length (sexp-bytes (SN l)) → SexpAt s (Nil e) (SN l)
+  pair-at : {l : Loc} {h t : Sexp} {p : ℕ} → Stands s p (sexp-bytes h ∷ sexp-bytes t ∷ []) → length (sexp-bytes (SC l h t)) ≡ p + length (sexp-bytes h) + length (sexp-bytes t) → SexpAt s (Pair p) (SC l h t)
+  integer-at : {l : Loc} {b : Bytes} {v : NameView} → NameAt s v b (length (sexp-bytes (SI l b))) → SexpAt s (Integer v) (SI l b)
+  text-at : {l : Loc} {q : ℕ} {n : Bytes} {v : NameView} → NameAt s v n (length (sexp-bytes (SQ l q n))) → SexpAt s (Text v) (SQ l q n)
+  atom-at : {l : Loc} {n : Bytes} {v : NameView} → NameAt s v n (length (sexp-bytes (SA l n))) → SexpAt s (Atom v) (SA l n)
 
--- the bytes b of a record of n bytes
-pub record LeafAt (s : Bytes) (v : SexpView) (n : ℕ) (b : Bytes) : Type 0 where
-  pub tag : v .tag ≡ 2
-  pub bytes : At s (v .start) b
-  pub ends : v .end ≡ v .start + length b
-  pub whole : v .end ≡ n
+-- the place among the marks of S records of the mark that a view stands for; behind them all if it stands for none
+abbrev pub view-index : SexpView → ℕ
+view-index (Nil e) = 0
+view-index (Pair p) = 1
+view-index (Integer v) = 2
+view-index (Text v) = 3
+view-index (Atom v) = 4
+view-index Unknown = 5
 
--- an SN; an SC, whose tail stands behind its head; an SI, SQ or SA
-unfoldable pub SexpAt : Bytes → SexpView → Sexp → Type 0
-SexpAt s v (SN l) = (v .tag ≡ 0) × (v .end ≡ length (sexp-bytes (SN l)))
-SexpAt s v (SC l h t) = (v .tag ≡ 1) × Stands s (v .start) (sexp-bytes h ∷ sexp-bytes t ∷ []) × (length (sexp-bytes (SC l h t)) ≡ v .start + length (sexp-bytes h) + length (sexp-bytes t))
-SexpAt s v (SI l b) = LeafAt s v (length (sexp-bytes (SI l b))) b
-SexpAt s v (SQ l q n) = LeafAt s v (length (sexp-bytes (SQ l q n))) n
-SexpAt s v (SA l n) = LeafAt s v (length (sexp-bytes (SA l n))) n
-
-pub record SeesSexp (s : Bytes) (v : SexpView) : Type 0 where
+-- bytes from a place behind the mark on, within n bytes
+pub record BytesIn (n : ℕ) (v : NameView) : Type 0 where
+  pub moved : 0 < v .start
   pub forward : v .start ≤ v .end
-  pub within : v .end ≤ length s
-  pub moved : v .tag ≡ 1 → 0 < v .start
+  pub within : v .end ≤ n
+
+-- the places of a view stand behind the mark and within n bytes
+abbrev pub PlacesIn : ℕ → SexpView → Type 0
+PlacesIn n (Nil e) = (0 < e) × (e ≤ n)
+PlacesIn n (Pair p) = (0 < p) × (p ≤ n)
+PlacesIn n (Integer v) = BytesIn n v
+PlacesIn n (Text v) = BytesIn n v
+PlacesIn n (Atom v) = BytesIn n v
+PlacesIn n Unknown = Unit {0}
+
+-- what the view of an S record says, whatever its depth: the view goes by the mark, and is none where the mark is none of the five
+pub record SeesSexp (s : Bytes) (v : SexpView) : Type 0 where
+  pub marked : view-index v ≡ mark-index (take mark-width s) sexp-marks
+  pub places : PlacesIn (length s) v
   pub sees : (t : Sexp) → SexpFields t → At s 0 (sexp-bytes t) → SexpAt s v t

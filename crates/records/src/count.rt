@@ -4,51 +4,35 @@ use crate::Counted;
 use crate::Family;
 use crate::LOC_WIDTH;
 use crate::MARK_WIDTH;
+use crate::SexpView;
 use crate::past::byte_at;
 use crate::past::past_bytes;
 use crate::past::past_hint;
-use crate::past::past_integer;
 use crate::past::past_keyword;
 use crate::past::past_name;
 use crate::past::past_raw;
 use crate::record::body_mark;
 use crate::record::helper_mark;
-use crate::sexp::sexp_mark;
+use crate::sexps::sexp_view;
 ghost use Prim.Native.Nat.{_≤_};
 ghost use lib.ListN.{length};
+ghost use Rattle.records.specs.Records.{mark-width};
 ghost use Rattle.records.specs.Count.{sexp-records, pattern-records, tail-records, family-records, total, no-records, many-part, tail-part, named-part, Counts, Begun, Adds};
 ghost use Rattle.records.specs.Parts.{sexp-part, pattern-part, family-part};
-ghost use Rattle.records.specs.Views.{mark-width};
 
 // How many S records the one that s starts with has, itself among them, and its length.
 pub fn count_sexps(s: &[u8]) -> Counted
     ensures { λ r. ⌜ Counts sexp-part sexp-records (now (s .entry)) r ⌝ }
 {
-    if s.len() < MARK_WIDTH {
-        return Counted {
-            count: 0,
-            end: s.len(),
-        };
-    }
-    let k = sexp_mark(s);
-    let at = past_bytes(s, MARK_WIDTH, LOC_WIDTH);
-    let c = Counted { count: 1, end: at };
-    match k {
-        0 => c,
-        1 => child_sexp(s, child_sexp(s, c)),
-        2 => Counted {
+    let v = sexp_view(s);
+    match v {
+        SexpView::Nil(end) => Counted { count: 1, end },
+        SexpView::Pair(end) => child_sexp(s, child_sexp(s, Counted { count: 1, end })),
+        SexpView::Integer(n) | SexpView::Text(n) | SexpView::Atom(n) => Counted {
             count: 1,
-            end: past_integer(s, at),
+            end: n.end,
         },
-        3 => Counted {
-            count: 1,
-            end: past_name(s, past_bytes(s, at, 1)),
-        },
-        4 => Counted {
-            count: 1,
-            end: past_name(s, at),
-        },
-        _ => Counted {
+        SexpView::Unknown => Counted {
             count: 0,
             end: s.len(),
         },

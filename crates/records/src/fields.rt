@@ -7,20 +7,22 @@ use crate::RAW_WIDTH;
 use crate::Scan;
 use names::NAME_WIDTH;
 use names::bytes::number;
+use names::refusals::place_at;
+use names::refusals::refusing;
 ghost use mathlib.Core.Path.{_≡_};
 ghost use Prim.Native.Nat.{_≤_};
 ghost use lib.ListN.{length};
+ghost use Rattle.names.specs.Refusals.{place-at};
 ghost use Rattle.records.specs.Read.{Fault, fault-number, bytes, loc, counted, name, raw-field, integer, at-most, optional-loc, keyword, hint, count, shortest};
-ghost use Rattle.records.specs.Scan.{Reads, refusal};
+ghost use Rattle.records.specs.Scan.{Reads, refused-scan};
 
 // A refusal, at the record's mark.
-pub fn refused(s: &[u8], mark: usize, number: usize) -> Scan
-    ensures { λ r. ⌜ r ≡ refusal (length (now (s .entry))) number mark ⌝ }
+pub fn refused(s: &[u8], mark: usize, number: u32) -> Scan
+    ensures { λ r. ⌜ r ≡ refused-scan (length (now (s .entry))) number (place-at mark) ⌝ }
 {
     Scan {
         at: s.len(),
-        number,
-        place: mark,
+        refusal: refusing(number, place_at(mark as u64)),
         first: 0,
     }
 }
@@ -31,7 +33,7 @@ pub fn bytes(s: &[u8], mark: usize, c: Scan, n: usize) -> Scan
     ensures { λ r. ⌜ Reads (bytes n) mark (now (s .entry)) c r ⌝ }
 {
     let at = c.at;
-    if c.number != 0 {
+    if c.refusal.number != 0 {
         return c;
     }
     if s.len() - at < n {
@@ -58,7 +60,7 @@ fn counted(s: &[u8], mark: usize, c: Scan, width: usize) -> Scan
 {
     let at = c.at;
     let d = bytes(s, mark, c, width);
-    if d.number != 0 {
+    if d.refusal.number != 0 {
         return d;
     }
     bytes(s, mark, d, number(s, at, width))
@@ -81,14 +83,14 @@ pub fn raw(s: &[u8], mark: usize, c: Scan) -> Scan
 }
 
 // A byte that is at most `most`; `fault` if not.
-pub fn at_most(s: &[u8], mark: usize, c: Scan, most: u8, fault: usize) -> Scan
+pub fn at_most(s: &[u8], mark: usize, c: Scan, most: u8, fault: u32) -> Scan
     requires { ⌜ c .at ≤ length (now s) ⌝ }
     ensures { λ r. ⌜ ((f : Fault) → fault-number f ≡ fault → Reads (at-most f most) mark (now (s .entry)) c r) ⌝ }
     ensures { λ r. ⌜ r .at ≤ length (now (s .entry)) ⌝ }
 {
     let at = c.at;
     let d = bytes(s, mark, c, 1);
-    if d.number != 0 {
+    if d.refusal.number != 0 {
         return d;
     }
     if s[at] > most {
@@ -112,7 +114,7 @@ fn optional_loc(s: &[u8], mark: usize, c: Scan, least: u8, most: u8) -> Scan
 {
     let at = c.at;
     let d = at_most(s, mark, c, most, 2);
-    if d.number != 0 {
+    if d.refusal.number != 0 {
         return d;
     }
     if s[at] < least {
@@ -144,7 +146,7 @@ pub fn integer(s: &[u8], mark: usize, c: Scan) -> Scan
 {
     let at = c.at;
     let d = counted(s, mark, c, INTEGER_WIDTH);
-    if d.number != 0 {
+    if d.refusal.number != 0 {
         return d;
     }
     let v = at + INTEGER_WIDTH;

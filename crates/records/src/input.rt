@@ -1,24 +1,26 @@
 // The reading refusals of every call: 1, 3 by length, 2 and 3 by reading, 4.
-use crate::Context;
 use crate::Family;
-use crate::LAMBDA_LIMIT;
 use crate::LEAST_LONGEST;
-use crate::LEVEL_LIMIT;
 use crate::MOST_LONGEST;
 use crate::Opening;
 use crate::Scan;
 use crate::WORK_FACTOR;
 use crate::Wanted;
-use crate::Zone;
 use crate::record::assign;
 use crate::record::read_record;
+use crate::start::from_place;
+use crate::start::outermost;
 use names::MAX_COUNTER;
+use names::refusals::place_at;
+use names::refusals::placeless;
+use names::refusals::refusing;
 ghost use mathlib.Core.Path.{_≡_};
 ghost use Prim.Native.Nat.{_≤_};
 ghost use lib.ListN.{length};
 ghost use Rattle.records.specs.Limits.{most-longest};
 ghost use Rattle.records.specs.Opened.{limits, open-input};
-ghost use Rattle.records.specs.Scan.{Comes, first-scan, outermost, wanted-reader, opening-of};
+ghost use Rattle.records.specs.Read.{outermost};
+ghost use Rattle.records.specs.Scan.{Comes, first-scan, wanted-reader, opening-of};
 
 // Whether F, the length of work memory and the counter are within their limits.
 fn within(f: usize, work: usize, counter: u64) -> bool
@@ -41,18 +43,8 @@ fn read_from_first(wanted: Wanted, input: &[u8]) -> Scan
     requires { ⌜ length (now input) ≤ most-longest ⌝ }
     ensures { λ r. ⌜ Comes (wanted-reader wanted .1) outermost (now (input .entry)) first-scan r ⌝ }
 {
-    let x = Context {
-        mark: 0,
-        room: LEVEL_LIMIT,
-        lambdas: LAMBDA_LIMIT,
-        zone: Zone::Plain,
-    };
-    let c = Scan {
-        at: 0,
-        number: 0,
-        place: 0,
-        first: 0,
-    };
+    let x = outermost();
+    let c = from_place(0);
     match wanted {
         Wanted::Form => read_record(input, x, Family::Form, c),
         Wanted::Helper => read_record(input, x, Family::Helper, c),
@@ -65,23 +57,21 @@ pub fn open_input(wanted: Wanted, f: usize, work: usize, counter: u64, input: &[
     ensures { λ r. ⌜ r ≡ opening-of (open-input (wanted-reader wanted .1) f work counter (now (input .entry))) ⌝ }
 {
     if !within(f, work, counter) {
-        return Opening::Refused(1, 0);
+        return Opening::Refused(placeless(1));
     }
     if input.len() > f {
-        return Opening::Refused(3, 0);
+        return Opening::Refused(placeless(3));
     }
     let r = read_from_first(wanted, input);
-    if r.number == 2 {
-        return Opening::Refused(2, r.place);
-    }
-    if r.number != 0 {
-        return Opening::Refused(3, r.place);
+    let refusal = r.refusal;
+    if refusal.number != 0 {
+        return Opening::Refused(refusal);
     }
     if r.at < input.len() {
-        return Opening::Refused(2, r.at);
+        return Opening::Refused(refusing(2, place_at(r.at as u64)));
     }
     if r.first != 0 {
-        return Opening::Refused(4, r.first - 1);
+        return Opening::Refused(refusing(4, place_at(r.first as u64 - 1)));
     }
     Opening::Accepted
 }

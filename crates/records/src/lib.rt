@@ -2,7 +2,8 @@
 //
 // `input` reads what a call is given, `record`, `sexp` and `fields` read one record. Of a record that
 // was read, `skip` and `past` say how long it and its fields are, `bodies`, `helpers` and `sexps` where
-// its fields and children start, and `count` how many records it holds.
+// its fields and children start, and `count` how many records it holds. `start` has where a reading
+// starts.
 pub mod bodies;
 pub mod count;
 pub mod fields;
@@ -13,12 +14,18 @@ pub mod record;
 pub mod sexp;
 pub mod sexps;
 pub mod skip;
+pub mod start;
+
+use names::Refusal;
 
 // The bytes of a mark.
 pub const MARK_WIDTH: usize = 2;
 
 // The bytes of a location.
 pub const LOC_WIDTH: usize = 4;
+
+// The bytes of a mark and a location, with which a record starts.
+pub const HEAD_WIDTH: usize = MARK_WIDTH + LOC_WIDTH;
 
 // The bytes of the length of a field that is only copied.
 pub const RAW_WIDTH: usize = 2;
@@ -72,12 +79,11 @@ pub enum Family {
 }
 
 // How far a record is read: the offset of the next byte, from the record's mark; the refusal so
-// far (0 for none) and its place; and one more than the offset of the first BM met in a binding
-// body of an assign (0 for none). A refused reading stands at the end of its bytes.
+// far; and one more than the offset of the first BM met in a binding body of an assign (0 for none).
+// A refused reading stands at the end of its bytes.
 pub struct Scan {
     pub at: usize,
-    pub number: usize,
-    pub place: usize,
+    pub refusal: Refusal,
     pub first: usize,
 }
 
@@ -88,16 +94,16 @@ pub enum Wanted {
     Assign,
 }
 
-// An input is accepted, or refused with a number and a place.
+// An input is accepted or refused.
 pub enum Opening {
     Accepted,
-    Refused(u32, usize),
+    Refused(Refusal),
 }
 
-// What a step read and wrote, and the counter that it left; or its refusal's number and place.
+// What a step read and wrote, and the counter that it left; or its refusal.
 pub enum Step {
     Done(usize, usize, u64),
-    Refused(u32, u32),
+    Refused(names::Refusal),
 }
 
 // The bytes of a name: where they start and end.
@@ -181,13 +187,15 @@ pub struct ConsView {
     pub tail: usize,
 }
 
-// An S record. Tag 0: an SN that ends at `end`. Tag 1: an SC whose head starts at `start`. Tag 2: an
-// SI, SQ or SA whose number, text or name stands from `start` to `end`, where the record ends too.
-// Tag 3: none of them.
-pub struct SexpView {
-    pub tag: u8,
-    pub start: usize,
-    pub end: usize,
+// An S record: where an SN ends; where the head of an SC starts; where the number of an SI, the text
+// of an SQ or the name of an SA starts and ends, which is where the record ends; or none of them.
+pub enum SexpView {
+    Nil(usize),
+    Pair(usize),
+    Integer(NameView),
+    Text(NameView),
+    Atom(NameView),
+    Unknown,
 }
 
 // How many records a record has, and where it ends.

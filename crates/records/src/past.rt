@@ -1,41 +1,26 @@
-// Where a field that stands at a place ends. Where bytes are missing, the end of the bytes.
+// Where a field that stands at a place ends, and what stands there.
+use crate::HEAD_WIDTH;
 use crate::INTEGER_WIDTH;
-use crate::LOC_WIDTH;
-use crate::MARK_WIDTH;
 use crate::NameView;
-use crate::Scan;
 use crate::TaggedView;
 use crate::fields::hint;
 use crate::fields::keyword;
 use crate::fields::name;
 use crate::fields::raw;
 use crate::record::pattern;
+use crate::start::from_place;
 use names::NAME_WIDTH;
 use names::bytes::number;
 ghost use mathlib.Core.Path.{_≡_};
-ghost use Prim.Native.Nat.{ℕ, _≤_};
-ghost use lib.ListN.{length};
-ghost use Rattle.names.specs.Segments.{At};
-ghost use Rattle.records.specs.Records.{byte};
+ghost use Prim.Native.Nat.{_≤_};
+ghost use lib.ListN.{length, getD};
 ghost use Rattle.records.specs.Views.{PastHead, SeesCounted, SeesName, SeesInteger, SeesTagged};
-ghost use Rattle.records.specs.Parts.{fixed-part, name-part, integer-part, raw-part, keyword-part, hint-part, pattern-part, from-place, Past};
+ghost use Rattle.records.specs.Parts.{name-part, raw-part, keyword-part, hint-part, pattern-part, Past, PastBytes};
 
-// A reading that has come to a place.
-fn from_place(at: usize) -> Scan
-    ensures { λ r. ⌜ r ≡ from-place at ⌝ }
-{
-    Scan {
-        at,
-        number: 0,
-        place: 0,
-        first: 0,
-    }
-}
-
-// So many bytes.
+// So many bytes; where they are missing, the end of the bytes.
 pub fn past_bytes(s: &[u8], at: usize, n: usize) -> usize
     requires { ⌜ at ≤ length (now s) ⌝ }
-    ensures { λ r. ⌜ Past (fixed-part n) (now (s .entry)) at r ⌝ }
+    ensures { λ r. ⌜ PastBytes n (now (s .entry)) at r ⌝ }
 {
     if s.len() - at < n {
         return s.len();
@@ -43,15 +28,14 @@ pub fn past_bytes(s: &[u8], at: usize, n: usize) -> usize
     at + n
 }
 
-// The mark and the L that a record starts with.
+// The mark and the L that a record starts with; where they are missing, the end of the bytes.
 pub fn past_head(s: &[u8]) -> usize
     ensures { λ r. ⌜ PastHead (now (s .entry)) r ⌝ }
 {
-    let head = MARK_WIDTH + LOC_WIDTH;
-    if s.len() < head {
+    if s.len() < HEAD_WIDTH {
         return s.len();
     }
-    head
+    HEAD_WIDTH
 }
 
 // A name.
@@ -61,15 +45,6 @@ pub fn past_name(s: &[u8], at: usize) -> usize
 {
     let r = name(s, 0, from_place(at));
     r.at
-}
-
-// A number.
-pub fn past_integer(s: &[u8], at: usize) -> usize
-    requires { ⌜ at ≤ length (now s) ⌝ }
-    ensures { λ r. ⌜ Past integer-part (now (s .entry)) at r ⌝ }
-{
-    let start = past_bytes(s, at, INTEGER_WIDTH);
-    past_bytes(s, start, byte_at(s, at) as usize)
 }
 
 // A field that is only copied.
@@ -108,9 +83,9 @@ pub fn past_pattern(s: &[u8], at: usize) -> usize
     r.at
 }
 
-// The byte at a place, or 0.
+// The byte at a place; past the end, 0.
 pub fn byte_at(s: &[u8], at: usize) -> u8
-    ensures { λ r. ⌜ ((b : ℕ) → At (now (s .entry)) at (byte b) → r ≡ b) ⌝ }
+    ensures { λ r. ⌜ r ≡ getD (now (s .entry)) at 0 ⌝ }
 {
     if at >= s.len() {
         return 0;

@@ -2,6 +2,7 @@
 use crate::CONS_LIMIT;
 use crate::Context;
 use crate::Family;
+use crate::MARK_WIDTH;
 use crate::Scan;
 use crate::Zone;
 use crate::fields::at_most;
@@ -18,13 +19,20 @@ use names::bytes::is_word;
 ghost use mathlib.Core.Path.{_≡_};
 ghost use Prim.Native.Nat.{_+_, _^_, _≤_, _<_};
 ghost use lib.ListN.{length, take, drop};
+ghost use Rattle.records.specs.Records.{mark-width};
 ghost use Rattle.records.specs.Limits.{level-limit};
 ghost use Rattle.records.specs.Read.{note, pattern-of, let-after, call-after, mod-after, constant-after, macro-after, function-after, namespace-after, reference-after, kind-of, more-levels, binding-zone, assign-of};
 ghost use Rattle.records.specs.Scan.{mark-index, body-marks, helper-marks, reader-of, times-of, many-of, let-of-kind, tail-of, body-after, lambda-within, helper-after, below, in-zone-of, Comes, Reads, Goes};
 
+// What `body_mark` answers where no mark of a B record stands, and `helper_mark` where none of an H
+// record does: how many there are.
+const NO_BODY_MARK: u8 = 6;
+
+const NO_HELPER_MARK: u8 = 5;
+
 // Which mark of a B record stands at the start of s: its place among BL, BQ, BV, BC, BM, BF, or 6.
 pub fn body_mark(s: &[u8]) -> u8
-    ensures { λ r. ⌜ r ≡ mark-index (take 2 (drop 0 (now (s .entry)))) body-marks ⌝ }
+    ensures { λ r. ⌜ r ≡ mark-index (take mark-width (drop 0 (now (s .entry)))) body-marks ⌝ }
 {
     if is_word(s, 0, b"BV") {
         return 2;
@@ -44,12 +52,12 @@ pub fn body_mark(s: &[u8]) -> u8
     if is_word(s, 0, b"BM") {
         return 4;
     }
-    6
+    NO_BODY_MARK
 }
 
 // Which mark of an H record stands at the start of s: its place among HC, HM, HD, HN, HR, or 5.
 pub fn helper_mark(s: &[u8]) -> u8
-    ensures { λ r. ⌜ r ≡ mark-index (take 2 (drop 0 (now (s .entry)))) helper-marks ⌝ }
+    ensures { λ r. ⌜ r ≡ mark-index (take mark-width (drop 0 (now (s .entry)))) helper-marks ⌝ }
 {
     if is_word(s, 0, b"HD") {
         return 2;
@@ -66,7 +74,7 @@ pub fn helper_mark(s: &[u8]) -> u8
     if is_word(s, 0, b"HR") {
         return 4;
     }
-    5
+    NO_HELPER_MARK
 }
 
 // The context n levels further down.
@@ -123,7 +131,7 @@ fn noted(s: &[u8], x: Context, c: Scan) -> Scan
         Zone::Plain => c,
         Zone::InMod => c,
         Zone::InBinding => {
-            if c.number != 0 {
+            if c.refusal.number != 0 {
                 return c;
             }
             if c.first != 0 {
@@ -144,7 +152,7 @@ pub fn pattern(s: &[u8], mark: usize, c: Scan) -> Scan
 {
     let at = c.at;
     let d = at_most(s, mark, c, 1, 2);
-    if d.number != 0 {
+    if d.refusal.number != 0 {
         return d;
     }
     if s[at] == 0 {
@@ -155,7 +163,7 @@ pub fn pattern(s: &[u8], mark: usize, c: Scan) -> Scan
 
 // The record at the start of s.
 pub fn read_record(s: &[u8], x: Context, family: Family, c: Scan) -> Scan
-    requires { ⌜ (c .at ≡ 0) × (c .number ≡ 0) ⌝ }
+    requires { ⌜ (c .at ≡ 0) × (c .refusal .number ≡ 0) ⌝ }
     requires { ⌜ x .mark + length (now s) < 2 ^ 63 ⌝ }
     ensures { λ r. ⌜ Goes (reader-of family) x (now (s .entry)) c r ⌝ }
 {
@@ -174,7 +182,7 @@ fn child(s: &[u8], x: Context, family: Family, c: Scan) -> Scan
     ensures { λ r. ⌜ Goes (reader-of family) x (now (s .entry)) c r ⌝ }
 {
     let at = c.at;
-    if c.number != 0 {
+    if c.refusal.number != 0 {
         return c;
     }
     let mut y = x;
@@ -209,7 +217,7 @@ fn many(s: &[u8], x: Context, family: Family, c: Scan) -> Scan
 {
     let at = c.at;
     let d = count(s, x.mark, c);
-    if d.number != 0 {
+    if d.refusal.number != 0 {
         return d;
     }
     times(s, x, family, s[at], d)
@@ -217,13 +225,13 @@ fn many(s: &[u8], x: Context, family: Family, c: Scan) -> Scan
 
 // A B record.
 fn body(s: &[u8], x: Context, c: Scan) -> Scan
-    requires { ⌜ (c .at ≡ 0) × (c .number ≡ 0) ⌝ }
+    requires { ⌜ (c .at ≡ 0) × (c .refusal .number ≡ 0) ⌝ }
     requires { ⌜ x .mark + length (now s) < 2 ^ 63 ⌝ }
     ensures { λ r. ⌜ Goes (reader-of Family.Body) x (now (s .entry)) c r ⌝ }
 {
-    let d = bytes(s, x.mark, c, 2);
+    let d = bytes(s, x.mark, c, MARK_WIDTH);
     let k = body_mark(s);
-    if k == 6 {
+    if k == NO_BODY_MARK {
         return refused(s, x.mark, 2);
     }
     if x.room == 0 {
@@ -248,7 +256,7 @@ fn let_form(s: &[u8], x: Context, c: Scan) -> Scan
 {
     let at = c.at;
     let d = at_most(s, x.mark, c, 2, 2);
-    if d.number != 0 {
+    if d.refusal.number != 0 {
         return d;
     }
     let_after(s, x, s[at], d)
@@ -263,7 +271,7 @@ fn let_after(s: &[u8], x: Context, kind: u8, c: Scan) -> Scan
     let d = hint(s, x.mark, keyword(s, x.mark, loc(s, x.mark, c)));
     let at = d.at;
     let e = count(s, x.mark, d);
-    if e.number != 0 {
+    if e.refusal.number != 0 {
         return e;
     }
     let n = s[at];
@@ -295,7 +303,7 @@ fn tail(s: &[u8], x: Context, c: Scan) -> Scan
 {
     let at = c.at;
     let d = at_most(s, x.mark, c, 1, 2);
-    if d.number != 0 {
+    if d.refusal.number != 0 {
         return d;
     }
     if s[at] == 0 {
@@ -326,7 +334,7 @@ fn lambda(s: &[u8], x: Context, c: Scan) -> Scan
     requires { ⌜ x .mark + length (now s) < 2 ^ 63 ⌝ }
     ensures { λ r. ⌜ Goes (body-after lambda-within) x (now (s .entry)) c r ⌝ }
 {
-    if c.number != 0 {
+    if c.refusal.number != 0 {
         return c;
     }
     if x.lambdas == 0 {
@@ -342,11 +350,11 @@ fn lambda(s: &[u8], x: Context, c: Scan) -> Scan
 
 // A BB.
 fn binding(s: &[u8], x: Context, c: Scan) -> Scan
-    requires { ⌜ (c .at ≡ 0) × (c .number ≡ 0) ⌝ }
+    requires { ⌜ (c .at ≡ 0) × (c .refusal .number ≡ 0) ⌝ }
     requires { ⌜ x .mark + length (now s) < 2 ^ 63 ⌝ }
     ensures { λ r. ⌜ Goes (reader-of Family.Binding) x (now (s .entry)) c r ⌝ }
 {
-    let d = bytes(s, x.mark, c, 2);
+    let d = bytes(s, x.mark, c, MARK_WIDTH);
     if !is_word(s, 0, b"BB") {
         return refused(s, x.mark, 2);
     }
@@ -357,13 +365,13 @@ fn binding(s: &[u8], x: Context, c: Scan) -> Scan
 
 // An H record.
 fn helper(s: &[u8], x: Context, c: Scan) -> Scan
-    requires { ⌜ (c .at ≡ 0) × (c .number ≡ 0) ⌝ }
+    requires { ⌜ (c .at ≡ 0) × (c .refusal .number ≡ 0) ⌝ }
     requires { ⌜ x .mark + length (now s) < 2 ^ 63 ⌝ }
     ensures { λ r. ⌜ Goes (reader-of Family.Helper) x (now (s .entry)) c r ⌝ }
 {
-    let d = bytes(s, x.mark, c, 2);
+    let d = bytes(s, x.mark, c, MARK_WIDTH);
     let k = helper_mark(s);
-    if k == 5 {
+    if k == NO_HELPER_MARK {
         return refused(s, x.mark, 2);
     }
     if x.room == 0 {
@@ -433,11 +441,11 @@ fn namespace(s: &[u8], x: Context, c: Scan) -> Scan
 
 // A CF.
 fn form(s: &[u8], x: Context, c: Scan) -> Scan
-    requires { ⌜ (c .at ≡ 0) × (c .number ≡ 0) ⌝ }
+    requires { ⌜ (c .at ≡ 0) × (c .refusal .number ≡ 0) ⌝ }
     requires { ⌜ x .mark + length (now s) < 2 ^ 63 ⌝ }
     ensures { λ r. ⌜ Goes (reader-of Family.Form) x (now (s .entry)) c r ⌝ }
 {
-    let d = bytes(s, x.mark, c, 2);
+    let d = bytes(s, x.mark, c, MARK_WIDTH);
     if !is_word(s, 0, b"CF") {
         return refused(s, x.mark, 2);
     }
@@ -452,18 +460,18 @@ fn form(s: &[u8], x: Context, c: Scan) -> Scan
 
 // One BL of kind 2 at the start of s.
 pub fn assign(s: &[u8], x: Context, c: Scan) -> Scan
-    requires { ⌜ (c .at ≡ 0) × (c .number ≡ 0) ⌝ }
+    requires { ⌜ (c .at ≡ 0) × (c .refusal .number ≡ 0) ⌝ }
     requires { ⌜ x .mark + length (now s) < 2 ^ 63 ⌝ }
     requires { ⌜ x .room ≡ level-limit ⌝ }
     ensures { λ r. ⌜ Comes assign-of x (now (s .entry)) c r ⌝ }
 {
-    let d = bytes(s, x.mark, c, 2);
+    let d = bytes(s, x.mark, c, MARK_WIDTH);
     if !is_word(s, 0, b"BL") {
         return refused(s, x.mark, 2);
     }
     let at = d.at;
     let k = bytes(s, x.mark, d, 1);
-    if k.number != 0 {
+    if k.refusal.number != 0 {
         return k;
     }
     if s[at] != 2 {

@@ -1,4 +1,5 @@
 // S records.
+use crate::MARK_WIDTH;
 use crate::Scan;
 use crate::fields::bytes;
 use crate::fields::integer;
@@ -9,12 +10,13 @@ use names::bytes::is_word;
 ghost use mathlib.Core.Path.{_≡_};
 ghost use Prim.Native.Nat.{_+_, _^_, _≤_, _<_};
 ghost use lib.ListN.{length, take, drop};
+ghost use Rattle.records.specs.Records.{mark-width};
 ghost use Rattle.records.specs.Read.{cons-rule, sexp-at};
 ghost use Rattle.records.specs.Scan.{Reads, mark-index, sexp-marks};
 
 // Which mark of an S record stands at the start of s: its place among SN, SC, SI, SQ, SA, or 5.
 pub fn sexp_mark(s: &[u8]) -> u8
-    ensures { λ r. ⌜ r ≡ mark-index (take 2 (drop 0 (now (s .entry)))) sexp-marks ⌝ }
+    ensures { λ r. ⌜ r ≡ mark-index (take mark-width (drop 0 (now (s .entry)))) sexp-marks ⌝ }
 {
     if is_word(s, 0, b"SA") {
         return 4;
@@ -36,11 +38,11 @@ pub fn sexp_mark(s: &[u8]) -> u8
 
 // The S record at the start of s, at most `depth` SC deep.
 pub fn sexp(s: &[u8], mark: usize, depth: usize, c: Scan) -> Scan
-    requires { ⌜ (c .at ≡ 0) × (c .number ≡ 0) ⌝ }
+    requires { ⌜ (c .at ≡ 0) × (c .refusal .number ≡ 0) ⌝ }
     requires { ⌜ mark + length (now s) < 2 ^ 64 ⌝ }
     ensures { λ r. ⌜ Reads (sexp-at depth) mark (now (s .entry)) c r ⌝ }
 {
-    let d = bytes(s, mark, c, 2);
+    let d = bytes(s, mark, c, MARK_WIDTH);
     let k = sexp_mark(s);
     match k {
         0 => loc(s, mark, d),
@@ -75,7 +77,7 @@ pub fn child_sexp(s: &[u8], mark: usize, depth: usize, c: Scan) -> Scan
     ensures { λ r. ⌜ Reads (sexp-at depth) mark (now (s .entry)) c r ⌝ }
 {
     let at = c.at;
-    if c.number != 0 {
+    if c.refusal.number != 0 {
         return c;
     }
     let mut b = c;

@@ -1,6 +1,5 @@
 // Views of the S records.
 use crate::ConsView;
-use crate::NameView;
 use crate::SexpView;
 use crate::past::integer_view;
 use crate::past::name_view;
@@ -10,7 +9,7 @@ use crate::sexp::sexp_mark;
 use crate::skip::past_sexp;
 ghost use mathlib.Core.Path.{_≡_};
 ghost use Rattle.records.specs.Sexps.{all-zero};
-ghost use Rattle.records.specs.Views.{SeesCons, SeesAtom, SeesSexp, leaf-of};
+ghost use Rattle.records.specs.Views.{SeesCons, SeesAtom, SeesSexp};
 
 // An SC.
 pub fn cons_view(s: &[u8]) -> ConsView
@@ -28,17 +27,6 @@ pub fn atom_view(s: &[u8]) -> usize
     past_head(s)
 }
 
-// An SI, SQ or SA by its bytes.
-fn leaf(v: NameView) -> SexpView
-    ensures { λ r. ⌜ r ≡ leaf-of v ⌝ }
-{
-    SexpView {
-        tag: 2,
-        start: v.start,
-        end: v.end,
-    }
-}
-
 // An S record of any kind.
 pub fn sexp_view(s: &[u8]) -> SexpView
     ensures { λ r. ⌜ SeesSexp (now (s .entry)) r ⌝ }
@@ -46,24 +34,12 @@ pub fn sexp_view(s: &[u8]) -> SexpView
     let head = past_head(s);
     let k = sexp_mark(s);
     match k {
-        0 => SexpView {
-            tag: 0,
-            start: head,
-            end: head,
-        },
-        1 => SexpView {
-            tag: 1,
-            start: head,
-            end: head,
-        },
-        2 => leaf(integer_view(s, head)),
-        3 => leaf(name_view(s, past_bytes(s, head, 1))),
-        4 => leaf(name_view(s, head)),
-        _ => SexpView {
-            tag: 3,
-            start: s.len(),
-            end: s.len(),
-        },
+        0 => SexpView::Nil(head),
+        1 => SexpView::Pair(head),
+        2 => SexpView::Integer(integer_view(s, head)),
+        3 => SexpView::Text(name_view(s, past_bytes(s, head, 1))),
+        4 => SexpView::Atom(name_view(s, head)),
+        _ => SexpView::Unknown,
     }
 }
 

@@ -1,49 +1,36 @@
 // The length of the record that bytes start with, and where the next one starts.
-use crate::CONS_LIMIT;
-use crate::Context;
 use crate::Family;
-use crate::LAMBDA_LIMIT;
-use crate::LEVEL_LIMIT;
-use crate::Scan;
-use crate::Zone;
+use crate::SexpView;
 use crate::record::read_record;
-use crate::sexp::sexp;
+use crate::sexps::sexp_view;
+use crate::start::from_place;
+use crate::start::outermost;
 ghost use Prim.Native.Nat.{_≤_};
 ghost use lib.ListN.{length};
-ghost use Rattle.records.specs.Parts.{family-part, sexp-part, list-part, Skips, Past};
+ghost use Rattle.records.specs.Parts.{family-part, fields-part, sexp-part, list-part, Skips, Past};
 
 // The length of the record that s starts with.
 pub fn skip(family: Family, s: &[u8]) -> usize
     ensures { λ r. ⌜ Skips (family-part family) (now (s .entry)) r ⌝ }
 {
-    let x = Context {
-        mark: 0,
-        room: LEVEL_LIMIT,
-        lambdas: LAMBDA_LIMIT,
-        zone: Zone::Plain,
-    };
-    let c = Scan {
-        at: 0,
-        number: 0,
-        place: 0,
-        first: 0,
-    };
-    let r = read_record(s, x, family, c);
+    let r = read_record(s, outermost(), family, from_place(0));
     r.at
 }
 
-// The length of the S record that s starts with.
+// The length of the S record that s starts with, however deep it is.
 pub fn skip_sexp(s: &[u8]) -> usize
-    ensures { λ r. ⌜ Skips sexp-part (now (s .entry)) r ⌝ }
+    ensures { λ r. ⌜ Skips fields-part (now (s .entry)) r ⌝ }
 {
-    let c = Scan {
-        at: 0,
-        number: 0,
-        place: 0,
-        first: 0,
-    };
-    let r = sexp(s, 0, CONS_LIMIT, c);
-    r.at
+    let v = sexp_view(s);
+    match v {
+        SexpView::Nil(end) => end,
+        SexpView::Pair(head) => {
+            let tail = head + skip_sexp(&s[head..]);
+            tail + skip_sexp(&s[tail..])
+        }
+        SexpView::Integer(n) | SexpView::Text(n) | SexpView::Atom(n) => n.end,
+        SexpView::Unknown => s.len(),
+    }
 }
 
 // Where the record at a place ends.

@@ -55,7 +55,7 @@ fn read(wanted: Wanted, f: usize) {
 // Prints that the bytes of a file are accepted and how many records they have, or the refusal.
 fn judge(input: &[u8], wanted: Wanted, f: usize) {
     match open_input(wanted, f, WORK, 0, input) {
-        Opening::Refused(number, place) => refusal::print_at(number, place),
+        Opening::Refused(refusal) => refusal::print_at(refusal),
         Opening::Accepted => {
             let n = records_in(wanted, input);
             say::text(b"accepted: ");

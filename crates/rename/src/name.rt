@@ -32,8 +32,8 @@ pub fn run() {
 fn make(name: &[u8], counter: u64) {
     let mut result = [0u8; names::NAME_LIMIT];
     let answer = names::call::name_call(name, counter, &mut result);
-    if answer.number != 0 {
-        refusal::print(answer.number);
+    if answer.refusal.number != 0 {
+        refusal::print(answer.refusal.number);
         return;
     }
     let len = answer.len;

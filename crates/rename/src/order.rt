@@ -64,17 +64,19 @@ fn order(s: &[u8], f: usize, work: &mut [u8; WORK]) {
     if len > BINDING_LIMIT {
         return;
     }
-    if a.number == 0 && len == 0 {
+    let refusal = a.refusal;
+    let number = refusal.number;
+    if number == 0 && len == 0 {
         say::text(b"ordered: there are no bindings\n");
-    } else if a.number == 0 {
+    } else if number == 0 {
         say::text(b"ordered, first to last:\n");
         told(s, f, &row[..len], false);
-    } else if a.number == 5 {
-        refusal::print_deadlock(a.place);
+    } else if number == 5 {
+        refusal::print_deadlock(refusal);
         say::text(b"stuck, each waiting for names that only stuck bindings provide:\n");
         told(s, f, &row[..len], true);
     } else {
-        refusal::print_at(a.number, a.place as usize);
+        refusal::print_at(refusal);
     }
 }
 
@@ -82,7 +84,7 @@ fn order(s: &[u8], f: usize, work: &mut [u8; WORK]) {
 // that an assign stands in it.
 fn told(s: &[u8], f: usize, row: &[u8], stuck: bool) {
     match open_input(Wanted::Assign, f, WORK, 0, s) {
-        Opening::Refused(number, place) => refusal::print_at(number, place),
+        Opening::Refused(refusal) => refusal::print_at(refusal),
         Opening::Accepted => names(s, row, stuck),
     }
 }

@@ -1,5 +1,6 @@
 // Refusals in words.
 use crate::say;
+use names::Refusal;
 
 // The line of a refusal of the call Name.
 pub fn print(number: u32) {
@@ -14,7 +15,8 @@ pub fn print(number: u32) {
 }
 
 // The line of a refusal in reading a record, with its place.
-pub fn print_at(number: u32, place: usize) {
+pub fn print_at(refusal: Refusal) {
+    let number = refusal.number;
     start(number);
     if number == 1 {
         say::text(b"F is not from ");
@@ -25,15 +27,15 @@ pub fn print_at(number: u32, place: usize) {
         meaning(number);
     }
     say::text(b" at offset ");
-    say::number(place as u64);
+    say::number(refusal.place.start);
     say::text(b"\n");
 }
 
 // The line of a deadlock, with the location of the assign.
-pub fn print_deadlock(loc: u64) {
+pub fn print_deadlock(refusal: Refusal) {
     start(5);
     say::text(b"the bindings of the assign have no order, at location ");
-    say::number(loc);
+    say::number(refusal.place.start);
     say::text(b"\n");
 }
 

@@ -8,6 +8,8 @@ mod order;
 
 use libc::STDIN_FILENO;
 use names::bytes::number;
+use names::refusals::place_at;
+use names::refusals::refusing;
 use order::Case;
 use order::agrees;
 use ordering::BINDING_LIMIT;
@@ -30,8 +32,10 @@ fn case_of(head: &[u8; HEAD]) -> Case {
     Case {
         f: number(head, 0, 2),
         counter: number(head, 2, 8) as u64,
-        number: number(head, 11, 1) as u32,
-        place: number(head, 12, 4) as u64,
+        refusal: refusing(
+            number(head, 11, 1) as u32,
+            place_at(number(head, 12, 4) as u64),
+        ),
     }
 }
 

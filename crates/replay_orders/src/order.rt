@@ -1,16 +1,16 @@
 // The one place that knows the call Order.
 use names::Answer;
+use names::Refusal;
 use names::bytes::same;
 use ordering::call::order_call;
 use replays::fill;
 use replays::untouched;
 
-// What a case gives the call beside its input, and the number and place that it must get.
+// What a case gives the call beside its input, and the refusal that it must get.
 pub struct Case {
     pub f: usize,
     pub counter: u64,
-    pub number: u32,
-    pub place: u64,
+    pub refusal: Refusal,
 }
 
 // Whether a byte stands in a list.
@@ -40,7 +40,7 @@ fn all_held(list: &[u8], bytes: &[u8]) -> bool {
 // Whether the rounds are among those that are free: for an order of some bindings from 1 to their
 // number, else 0.
 fn free_rounds(a: Answer) -> bool {
-    if a.number != 0 {
+    if a.refusal.number != 0 {
         return a.rounds == 0;
     }
     if a.len == 0 {
@@ -49,9 +49,14 @@ fn free_rounds(a: Answer) -> bool {
     a.rounds >= 1 && a.rounds <= a.len as u64
 }
 
-// Whether number, place and counter are those of the case.
+// Whether two refusals are the same.
+fn same_refusal(a: Refusal, b: Refusal) -> bool {
+    a.number == b.number && a.place.start == b.place.start
+}
+
+// Whether refusal and counter are those of the case.
 fn same_head(c: Case, a: Answer) -> bool {
-    a.number == c.number && a.place == c.place && a.counter == c.counter
+    same_refusal(a.refusal, c.refusal) && a.counter == c.counter
 }
 
 // Whether the bytes written are the wanted ones: of a deadlock in any sequence.
@@ -73,5 +78,7 @@ pub fn agrees(c: Case, work: &mut [u8], input: &[u8], wanted: &[u8], result: &mu
     if !same_head(c, a) {
         return false;
     }
-    free_rounds(a) && untouched(&result[len..]) && same_bytes(a.number, &result[..len], wanted)
+    free_rounds(a)
+        && untouched(&result[len..])
+        && same_bytes(a.refusal.number, &result[..len], wanted)
 }

@@ -19,6 +19,6 @@ pub fn agrees(kind: u8, f: usize, number: u32, place: u64, input: &[u8]) -> bool
     let opening = open_input(wanted(kind), f, WORK_FACTOR * MOST_LONGEST, 0, input);
     match opening {
         Opening::Accepted => number == 0 && place == 0,
-        Opening::Refused(n, p) => n == number && p as u64 == place,
+        Opening::Refused(r) => r.number == number && r.place.start == place,
     }
 }

@@ -5,9 +5,9 @@ use Rattle.names.specs.Answers.{max-counter}
 use Rattle.names.specs.Maps.{NameMap}
 use Rattle.names.specs.Names.{Bytes}
 use Rattle.names.specs.Segments.{At}
-use Rattle.records.specs.Limits.{most-longest}
+use Rattle.records.specs.Limits.{most-longest, cons-limit}
 use Rattle.records.specs.Records.{Sexp, Form, sexp-bytes, form-bytes}
-use Rattle.records.specs.Valid.{SexpFields, ValidForm}
+use Rattle.records.specs.Valid.{SexpFields, cons-depth, ValidSexp, ValidForm}
 use Rattle.walk.specs.Arena.{MapAt}
 
 -- an input and a counter that a call takes
@@ -23,13 +23,14 @@ pub record FormIn (input : Bytes) (f : Form) : Type 0 where
 -- two S records stand in the input: names are drawn from p, and t is substituted
 pub record SexpsIn (input : Bytes) (a b : ℕ) (p t : Sexp) : Type 0 where
   pub pattern-fields : SexpFields p
+  pub pattern-deep : cons-depth p ≤ cons-limit
   pub pattern : At input a (sexp-bytes p)
-  pub target-fields : SexpFields t
+  pub target-valid : ValidSexp t
   pub target : At input b (sexp-bytes t)
 
 -- t stands at a place of memory among its first n bytes, and a map at the end, with room for f bytes between
 pub record Ready (mem : Bytes) (n at len f : ℕ) (t : Sexp) (m : NameMap) : Type 0 where
-  pub fields : SexpFields t
+  pub valid : ValidSexp t
   pub there : At mem at (sexp-bytes t)
   pub within : at + length (sexp-bytes t) ≤ n
   pub map : MapAt mem len m

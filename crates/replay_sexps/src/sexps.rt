@@ -1,6 +1,8 @@
 // The one place that knows Invent and Substitute.
+use names::Refusal;
 use names::bytes::is_word;
 use names::bytes::put;
+use records::CONS_LIMIT;
 use records::MOST_LONGEST;
 use records::Opening;
 use records::Step;
@@ -12,7 +14,9 @@ use records::input::open_input;
 use records::record::body_mark;
 use replays::fill;
 use replays::untouched;
+use walk::Growth;
 use walk::Invented;
+use walk::Task;
 use walk::invent::invent_new_names_sexp;
 use walk::substitute::rename_atom;
 use walk::substitute::rename_in_cons;
@@ -21,9 +25,9 @@ ghost use Prim.Native.Nat.{_+_, _*_, _≤_};
 ghost use lib.ListN.{length};
 ghost use Rattle.names.specs.Maps.{NameMap};
 ghost use Rattle.names.specs.Segments.{At};
-ghost use Rattle.records.specs.Records.{Sexp, Form};
+ghost use Rattle.records.specs.Records.{Sexp, Form, sexp-bytes};
 ghost use Rattle.replay_sexps.specs.Cases.{Taken, FormIn, SexpsIn, Ready};
-ghost use Rattle.walk.specs.Arena.{MapAt, SexpAtStart};
+ghost use Rattle.walk.specs.Arena.{Asks, Held};
 
 // The length of work memory that is enough for every F.
 const WORK: usize = WORK_FACTOR * MOST_LONGEST;
@@ -80,21 +84,19 @@ fn holds(mem: &[u8], input: &[u8], from: usize, map: &[u8]) -> bool {
 fn same_step(number: u32, read: usize, wrote: usize, counter: u64, step: Step) -> bool {
     match step {
         Step::Done(r, w, c) => number == 0 && r == read && w == wrote && c == counter,
-        Step::Refused(k, place) => k == number && place == 0,
+        Step::Refused(refusal) => refusal.number == number && refusal.place.start == 0,
     }
 }
 
 // Substitutes the S record at the start of memory by the rule of a case.
-fn substitute(rule: u8, mem: &mut [u8], free: usize, len: usize, f: usize, counter: u64) -> Step
-    requires { ⌜ ((t : Sexp) × SexpAtStart (now mem) free t) ⌝ }
-    requires { ⌜ ((m : NameMap) × MapAt (now mem) len m) ⌝ }
-    requires { ⌜ free + f + len ≤ length (now mem) ⌝ }
+fn substitute(rule: u8, mem: &mut [u8], task: Task) -> Step
+    requires { ⌜ Asks sexp-bytes (Held (task .depth)) (now mem) task ⌝ }
 {
     match rule {
-        0 => rename_in_cons(mem, free, len, false, f, counter),
-        1 => rename_in_cons(mem, free, len, true, f, counter),
-        2 => rename_in_qq(mem, free, len, f, counter),
-        _ => rename_atom(mem, free, len, f, counter),
+        0 => rename_in_cons(mem, task, false),
+        1 => rename_in_cons(mem, task, true),
+        2 => rename_in_qq(mem, task),
+        _ => rename_atom(mem, task),
     }
 }
 
@@ -112,7 +114,14 @@ fn renames(
 {
     let n = input.len();
     let free = n - target;
-    let step = substitute(c.rule, &mut mem[target..], free, len, c.room, c.after);
+    let task = Task {
+        free,
+        map: len,
+        f: c.room,
+        depth: CONS_LIMIT,
+        counter: c.after,
+    };
+    let step = substitute(c.rule, &mut mem[target..], task);
     same_step(c.substituted, free, wanted.len(), c.after, step)
         && is_word(mem, n, wanted)
         && holds(mem, input, n + c.room, map)
@@ -120,11 +129,17 @@ fn renames(
 
 // Whether Invent answers as it must, where it is not refused: the counter, the length of the
 // pattern, which ends one byte before the body, and the length of the map.
-fn same_draw(counter: u64, at: Places, len: usize, drawn: Invented) -> bool {
+fn same_draw(counter: u64, at: Places, len: usize, drawn: Growth) -> bool {
     if at.body <= at.pattern {
         return false;
     }
     drawn.counter == counter && drawn.end == at.body - at.pattern - 1 && drawn.len == len
+}
+
+// Whether it is refused as it must be.
+fn same_refusal(number: u32, refusal: Refusal) -> bool {
+    let place = refusal.place;
+    refusal.number == number && place.start == 0
 }
 
 // Whether both calls answer as they must.
@@ -135,20 +150,21 @@ fn draws(c: Case, mem: &mut [u8], input: &[u8], at: Places, map: &[u8], wanted: 
 {
     load(mem, input);
     let pattern = at.pattern;
-    let drawn = invent_new_names_sexp(&mut mem[pattern..], 0, c.counter);
-    if drawn.number != c.invented {
-        return false;
+    match invent_new_names_sexp(&mut mem[pattern..], 0, c.counter, CONS_LIMIT) {
+        Invented::Refused(r) => same_refusal(c.invented, r) && is_word(mem, 0, input),
+        Invented::Drawn(g) => {
+            if c.invented != 0 {
+                return false;
+            }
+            if !same_draw(c.after, at, map.len(), g) {
+                return false;
+            }
+            if !holds(mem, input, input.len(), map) {
+                return false;
+            }
+            renames(c, mem, input, at.target, g.len, map, wanted)
+        }
     }
-    if drawn.number != 0 {
-        return is_word(mem, 0, input);
-    }
-    if !same_draw(c.after, at, map.len(), drawn) {
-        return false;
-    }
-    if !holds(mem, input, input.len(), map) {
-        return false;
-    }
-    renames(c, mem, input, at.target, drawn.len, map, wanted)
 }
 
 // Finds the two S records of a form, and lends memory by the length of the input and the room.
@@ -183,7 +199,7 @@ fn finds(c: Case, mem: &mut [u8], input: &[u8], map: &[u8], wanted: &[u8]) -> bo
 // Whether the calls answer a case as they must; its input has to be a form.
 pub fn agrees(c: Case, mem: &mut [u8], input: &[u8], map: &[u8], wanted: &[u8]) -> bool {
     match open_input(Wanted::Form, c.f, WORK, c.counter, input) {
-        Opening::Refused(_, _) => false,
+        Opening::Refused(_) => false,
         Opening::Accepted => finds(c, mem, input, map, wanted),
     }
 }

@@ -1,14 +1,15 @@
--- Worked cases, by computation: one table of calls and what each answers; the edges of the refusals 6, 7 and 8; and a list of reached assigns.
+-- Worked cases, by computation: one table of calls and what each answers; the edges of the refusals 6, 7 and 8; and lists of reached assigns.
 -- Assumes nothing.
 use mathlib.Core.Path.{_≡_, refl}
 use mathlib.Core.List.{List, [], _∷_, _++_, map}
+use mathlib.Core.Option.{Option, none, some}
 use Prim.Native.Nat.{ℕ}
 use Prim.Native.String.{String}
 use lib.ListN.{length, replicate, take}
 use Rattle.names.specs.Names.{Bytes, ascii}
-use Rattle.records.specs.Records.{Loc, Sexp, SN, SC, SI, SA, Kind, Parallel, Sequential, Assign, Name, Complex, Body, BL, BV, BC, BF, []ᵇ, _∷ᵇ_, no-tail, Binding, BB, []ʰ, CF, to-bodies, to-bindings, body-bytes, form-bytes}
-use Rattle.walk.specs.Steps.{Visit}
-use Rattle.walk.specs.Calls.{computing-all, whole-call, children-visits}
+use Rattle.records.specs.Records.{Loc, Sexp, SN, SC, SI, SA, Kind, Parallel, Sequential, Assign, Name, Complex, Body, BL, BV, BC, BM, BF, []ᵇ, _∷ᵇ_, no-tail, Binding, BB, []ʰ, CF, to-bodies, to-bindings, body-bytes, form-bytes}
+use Rattle.walk.specs.Steps.{Visit, events, names-made}
+use Rattle.walk.specs.Calls.{computing-all, whole-run, whole-call, children-call, children-visits}
 use Rattle.names.specs.Answers.{Result, name-call}
 use Rattle.ordering.specs.OrderCall.{order-call}
 
@@ -32,7 +33,7 @@ abbrev pub Seen : Type 0
 Seen = ℕ × ℕ × ℕ × Bytes
 
 abbrev pub seen : Result → Seen
-seen r = (r .0 .number, r .0 .place, r .0 .counter, take (r .0 .len) (r .1))
+seen r = (r .0 .refusal .number, r .0 .refusal .place .start, r .0 .counter, take (r .0 .len) (r .1))
 
 abbrev pub accepted : ℕ → Bytes → Seen
 accepted c bs = (0, 0, c, bs)
@@ -72,8 +73,8 @@ given =
     0x43 ∷ 0x46 ∷ 0 ∷ 0 ∷ 0 ∷ 1 ∷ 0 ∷ 0 ∷ 0x53 ∷ 0x41 ∷ 0 ∷ 0 ∷ 0 ∷ 2 ∷ 1 ∷ 0x78 ∷ 0 ∷ 0x42 ∷ 0x56 ∷ 0x53 ∷ 0x41 ∷ 0 ∷ 0 ∷ 0 ∷ 3 ∷ 1
     ∷ 0x78 ∷ []
 
-abbrev pub made : Bytes
-made =
+abbrev pub given-renamed : Bytes
+given-renamed =
     0x43 ∷ 0x46 ∷ 0 ∷ 0 ∷ 0 ∷ 1 ∷ 0 ∷ 0 ∷ 0x53 ∷ 0x41 ∷ 0 ∷ 0 ∷ 0 ∷ 2 ∷ 5 ∷ 0x78 ∷ 0x5f ∷ 0x24 ∷ 0x5f ∷ 0x31 ∷ 0 ∷ 0x42 ∷ 0x56 ∷ 0x53 ∷ 0x41
     ∷ 0 ∷ 0 ∷ 0 ∷ 3 ∷ 5 ∷ 0x78 ∷ 0x5f ∷ 0x24 ∷ 0x5f ∷ 0x31 ∷ []
 
@@ -87,7 +88,7 @@ table =
     ∷ (name 41 [], accepted 42 (ascii "_$_42"))
     ∷ (name 0 (replicate 251 97), accepted 1 (replicate 251 97 ++ ascii "_$_1"))
     ∷ (name 0 (replicate 252 97), (6, 0, 0, []))
-    ∷ (whole 0 given, accepted 1 made)
+    ∷ (whole 0 given, accepted 1 given-renamed)
     -- let* x = 1, y = x, body y
     ∷ (
       whole 0 (form-of (let-of Sequential (named "x" (number 1) ∷ named "y" (var "x") ∷ []) (var "y"))),
@@ -160,7 +161,7 @@ edges =
     ∷ (whole 0 (calls "f" "f"), accepted 1 (calls "f" "f_$_1"))
     ∷ (whole-in (length (calls "f" "f_$_1")) 1024 0 (calls "f" "f"), (7, 0, 0, []))
     -- 8: a buffer as long as the result, and one byte shorter
-    ∷ (whole-in 1024 35 0 given, accepted 1 made)
+    ∷ (whole-in 1024 35 0 given, accepted 1 given-renamed)
     ∷ (whole-in 1024 34 0 given, (8, 0, 0, []))
     ∷ []
 
@@ -168,14 +169,69 @@ pub edges-hold : Holds edges
 unfolding computing-all
 edges-hold = refl
 
--- the counter and the bindings of each assign reached
-abbrev pub readings : List Visit → List (ℕ × List Binding)
-readings [] = []
-readings (e ∷ es) = (e .counter, e .bindings) ∷ readings es
+-- what Children only answers, and the assigns that it reaches: number and place, and of each assign its counter, its bindings and the record given back
+abbrev pub Walked : Type 0
+Walked = ℕ × ℕ × List (ℕ × List Binding × Option Body)
 
--- an assign in a lambda is reached again, as it then reads: let z = 1 around a lambda without args that holds assign y = 2, body y
-pub read-again : readings (children-visits 1024 262144 0 (form-of
-    (let-of Parallel (named "z" (number 1) ∷ []) (BF at (0 ∷ []) (SN at) (number 0) (SN at) (assign (complex (atom "y") (number 2) ∷ []) (var "y"))))))
-    ≡ (1, complex (atom "y") (number 2) ∷ []) ∷ (2, complex (atom "y_$_2") (number 2) ∷ []) ∷ []
+abbrev pub readings : List Visit → List (ℕ × List Binding × Option Body)
+readings [] = []
+readings (e ∷ es) = (e .counter, e .bindings, e .back) ∷ readings es
+
+-- with a buffer of so many bytes
+abbrev pub walked : ℕ → Bytes → Walked
+walked n input = let r : Result = children-call 1024 262144 0 input (room n) in (r .0 .refusal .number, r .0 .refusal .place .start, readings (children-visits 1024 262144 0 input))
+
+-- assign x = b, body x
+abbrev pub outer : String → Body → Body
+outer x b = assign (complex (atom x) b ∷ []) (var x)
+
+-- assign y = 2, body y
+abbrev pub inner : String → Body
+inner y = outer y (number 2)
+
+-- let z = 1 around a lambda without args that holds this
+abbrev pub around-lambda : String → Body → Body
+around-lambda z b = let-of Parallel (named z (number 1) ∷ []) (BF at (0 ∷ []) (SN at) (number 0) (SN at) b)
+
+-- assign x = x, body x
+abbrev pub self-bound : Body
+self-bound = outer "x" (var "x")
+
+-- an assign whose binding body holds a BM
+abbrev pub with-mod : Body
+with-mod = outer "x" (BM at (CF at (0 ∷ 0 ∷ []) (SN at) []ʰ (number 1)))
+
+abbrev pub lists : List ((ℕ × Bytes) × Walked)
+lists =
+    -- an assign in a lambda is reached again, as it then reads
+    (
+      (1024, form-of (around-lambda "z" (inner "y"))),
+      (0, 0, (1, complex (atom "y") (number 2) ∷ [], some (inner "y_$_2")) ∷ (2, complex (atom "y_$_2") (number 2) ∷ [], some (inner "y_$_2_$_3")) ∷ []),
+    )
+    -- an assign stands before those that its binding bodies lead to; each comes back, also where the buffer is too short
+    ∷ (
+      (1024, form-of (outer "x" (inner "y"))),
+      (0, 0, (0, complex (atom "x") (inner "y") ∷ [], some (outer "x_$_1" (inner "y_$_2"))) ∷ (1, complex (atom "y") (number 2) ∷ [], some (inner "y_$_2")) ∷ []),
+    )
+    ∷ (
+      (16, form-of (outer "x" (inner "y"))),
+      (8, 0, (0, complex (atom "x") (inner "y") ∷ [], some (outer "x_$_1" (inner "y_$_2"))) ∷ (1, complex (atom "y") (number 2) ∷ [], some (inner "y_$_2")) ∷ []),
+    )
+    -- a deadlock ends the list, and what is around it does not come back
+    ∷ (
+      (1024, form-of (outer "y" self-bound)),
+      (5, 7, (0, complex (atom "y") self-bound ∷ [], none) ∷ (1, complex (atom "x") (var "x") ∷ [], none) ∷ []),
+    )
+    -- refused with 4: none is reached, not even the assign before it
+    ∷ ((1024, form-of (BC at (inner "y" ∷ᵇ with-mod ∷ᵇ []ᵇ) no-tail)), (4, 100, []))
+    ∷ []
+
+-- each row's call answers and reaches as the row says
+pub lists-hold : map (λ r. walked (r .0 .0) (r .0 .1)) lists ≡ map (λ r. r .1) lists
 unfolding computing-all
-read-again = refl
+lists-hold = refl
+
+-- the names made, in their sequence
+pub names-drawn : names-made (events (whole-run 1024 262144 0 (form-of (outer "x" (inner "y"))))) ≡ (ascii "x", ascii "x_$_1") ∷ (ascii "y", ascii "y_$_2") ∷ []
+unfolding computing-all
+names-drawn = refl

@@ -1,23 +1,25 @@
 -- Demand 3 (specs/Assigns.antt) holds of the calls Whole form, Children only and Single helper, whatever they get. Assumes nothing.
 use mathlib.Core.Path.{_≡_, refl, ap, sym, _∙_}
-use mathlib.Core.Logic.{inl, inr}
+use mathlib.Core.Logic.{_⊎_, inl, inr}
 use mathlib.Core.Bool.{Bool, true, false}
 use mathlib.Core.List.{List, [], _∷_, _++_, List·Memᴰ·head, Memᴰ·append-right}
-use Prim.Native.Nat.{ℕ}
+use Prim.Native.Nat.{ℕ, _≤_, _<_}
 use native.Mathlib.Omega.{arith}
 use lib.Dec.{leb}
 use lib.ListN.{length}
 use Rattle.names.specs.Names.{Bytes}
-use Rattle.names.specs.Answers.{Result, refusal, delivered, written}
+use Rattle.names.specs.Answers.{Result, accepted-answer, refused-answer, delivered, written}
+use Rattle.names.specs.Refusals.{place-at, placeless}
+use Rattle.names.specs.declared.Refusal.{Refusal}
 use Rattle.records.specs.Records.{loc-number, form-bytes, helper-bytes}
 use Rattle.records.specs.Opened.{Opened, opened, closed, open-input}
 use Rattle.records.specs.Read.{Reader}
 use Rattle.records.proofs.Opened.{Start, start}
 use Rattle.ordering.specs.Lawful.{_is-in_}
-use Rattle.walk.specs.Steps.{M, Out, done, refused, Visit}
+use Rattle.walk.specs.Steps.{M, Out, done, refused, Visit, visits, events}
 use Rattle.walk.specs.Helperforms.{whole-walk, children-walk, helper-walk}
 use Rattle.walk.specs.Assigns.{HasOrder, AssignsOrdered}
-use Rattle.walk.specs.Calls.{visits, answered, rename-call, visits-of, whole-call, children-call, helper-call, whole-visits, children-visits, helper-visits}
+use Rattle.walk.specs.Calls.{answered, call-run, whole-run, children-run, helper-run, whole-call, children-call, helper-call, whole-visits, children-visits, helper-visits}
 use Rattle.walk.proofs.All.{All, all-none, all-cons, all-in, all-map}
 use Rattle.walk.proofs.Visits.{ordered-exactly, Done, Deadlocked, Ends, Good, Fine, Sound, whole-sound, children-sound, helper-sound}
 
@@ -32,75 +34,86 @@ last-one P (x ∷ xs) (y ∷ ys) after l e q (all-cons p ps) h = last-one P xs y
 middle : {A : Type 0} (before after : List A) (e : A) → e is-in before ++ (e ∷ after)
 middle before after e = Memᴰ·append-right before (List·Memᴰ·head refl)
 
+-- a refusal of the walk is neither 0 nor 8
+neither : {X : Type 0} {n : ℕ} → 4 < n → (n ≡ 8 → ⊥) → (n ≡ 0) ⊎ (n ≡ 8) → X
+neither h g (inl z) = absurd (omega arith)
+neither h g (inr z) = absurd (g z)
+
 module _ (F : ℕ) where
   -- where each has an order, and the number is not 5
-  all-ordered : {log : List Visit} {n p : ℕ} → All HasOrder log → ((e : Visit) → e is-in log → Good F e) → (n ≡ 5 → ⊥) → (n ≡ 0 → (e : Visit) → e is-in log → Done F e) → AssignsOrdered F log n p
-  all-ordered a g h d = record {
+  all-ordered : {list : List Visit} {r : Refusal} → All HasOrder list → ((e : Visit) → e is-in list → Good F e) → (r .number ≡ 5 → ⊥)
+      → ((r .number ≡ 0) ⊎ (r .number ≡ 8) → (e : Visit) → e is-in list → Done F e) → (1 ≤ r .number → r .number ≤ 4 → list ≡ []) → AssignsOrdered F list r
+  all-ordered a g h d n = record {
     orders = λ e m. ordered-exactly (e .bindings);
     refuses = (λ q. absurd (h q), λ f. absurd (f .2 (all-in a (f .1))));
     last = λ before after e q w. absurd (w (all-in {a = e} a (rw q (middle before after e))));
     finished = g;
-    accepted = λ z e m. let r = d z e m in (r .back, r .is-back);
+    all-finished = λ z e m. let r = d z e m in (r .back, r .is-back);
+    none-reached = n;
   }
 
   -- where the last has none
-  deadlocked : {log : List Visit} {n p : ℕ} → All (Good F) log → Deadlocked F log n p → AssignsOrdered F log n p
-  deadlocked {log} {n} {p} g d = record {
+  ends-deadlocked : {list : List Visit} {r : Refusal} → All (Good F) list → Deadlocked F list r → AssignsOrdered F list r
+  ends-deadlocked {list} {r} g d = record {
     orders = λ e m. ordered-exactly (e .bindings);
-    refuses = (λ _. (d .last, there, d .none-there), λ _. d .number);
-    last = λ before after e q w.
-        let r = last-one HasOrder (d .earlier) before after (d .last) e (sym q ∙ d .ends) (d .before) w in
-        (d .place ∙ ap (λ (x : Visit). loc-number (x .loc)) (sym (r .0)), r .1);
+    refuses = (λ _. (d .last, there, d .none-there), λ _. number);
+    last = λ before after e q h.
+        let w = last-one HasOrder (d .earlier) before after (d .last) e (sym q ∙ d .ends) (d .before) h in
+        (ap (λ (x : Refusal). x .place) (d .refusal) ∙ ap (λ (x : Visit). place-at (loc-number (x .loc))) (sym (w .0)), w .1);
     finished = λ e m. all-in g m;
-    accepted = λ z e m. absurd (omega (arith, d .number));
+    all-finished = neither (omega (arith, number)) (λ z. omega (arith, number));
+    none-reached = λ _ h. absurd (omega (arith, number));
   }
     where
-      there : d .last is-in log
+      number : r .number ≡ 5
+      number = ap (λ (x : Refusal). x .number) (d .refusal)
+
+      there : d .last is-in list
       there = rw (d .ends) (middle (d .earlier) [] (d .last))
 
-  of-done : {log : List Visit} {n p : ℕ} → All (Done F) log → (n ≡ 5 → ⊥) → AssignsOrdered F log n p
-  of-done a h = all-ordered (all-map (λ e d. d .order) a) (λ e m. all-in a m .good) h (λ _ e m. all-in a m)
+  of-done : {list : List Visit} {r : Refusal} → All (Done F) list → (r .number ≡ 5 → ⊥) → (1 ≤ r .number → r .number ≤ 4 → list ≡ []) → AssignsOrdered F list r
+  of-done a h n = all-ordered (all-map (λ e d. d .order) a) (λ e m. all-in a m .good) h (λ _ e m. all-in a m) n
 
-  of-refused : {log : List Visit} {n p : ℕ} → All (Good F) log → Ends F log n p → AssignsOrdered F log n p
-  of-refused g (inl d) = deadlocked g d
-  of-refused g (inr s) = all-ordered (s .all-ordered) (λ e m. all-in g m) (s .not-5) (λ z. absurd (s .not-0 z))
+  of-refused : {list : List Visit} {r : Refusal} → All (Good F) list → Ends F list r → AssignsOrdered F list r
+  of-refused g (inl d) = ends-deadlocked g d
+  of-refused g (inr s) = all-ordered (s .all-ordered) (λ e m. all-in g m) (λ z. absurd (omega (arith, s .late))) (neither (omega (arith, s .late)) (s .not-8)) (λ _ h. absurd (omega (arith, s .late)))
 
   -- with the number 0 or 8
-  of-delivered : (c : ℕ) (buffer : Bytes) {log : List Visit} (r : Bytes) (c′ : ℕ) → All (Done F) log → AssignsOrdered F log (delivered c buffer r c′ .0 .number) (delivered c buffer r c′ .0 .place)
-  unfolding delivered refusal
-  of-delivered c buffer {log} r c′ a = go (leb (length r) (length buffer))
+  of-delivered : (c : ℕ) (buffer : Bytes) {list : List Visit} (bs : Bytes) (c′ : ℕ) → All (Done F) list → AssignsOrdered F list (delivered c buffer bs c′ .0 .refusal)
+  unfolding delivered refused-answer
+  of-delivered c buffer {list} bs c′ a = go (leb (length bs) (length buffer))
     where
       go : (b : Bool)
-          → let d : Result = elim b [ true ↦ (record { number = 0; place = 0; counter = c′; rounds = 0; len = length r }, written r buffer) | false ↦ refusal c buffer 8 0 ] in
-          AssignsOrdered F log (d .0 .number) (d .0 .place)
-      go true = of-done a (omega arith)
-      go false = of-done a (omega arith)
+          → AssignsOrdered F list ((elim b as (λ _. Result) [ true ↦ (accepted-answer c′ 0 (length bs), written bs buffer) | false ↦ refused-answer c buffer (placeless 8) ]) .0 .refusal)
+      go true = of-done a (omega arith) (λ h _. absurd (omega arith))
+      go false = of-done a (omega arith) (λ _ h. absurd (omega arith))
 
-module _ {A : Type 0} (reader : Reader A) (walk-of : ℕ → A → M A) (bytes : A → Bytes) (s : (F : ℕ) (a : A) → Sound F (walk-of F a)) where
-  call-assigns : (F work c : ℕ) (input buffer : Bytes)
-      → let r : Result = rename-call reader walk-of bytes F work c input buffer in AssignsOrdered F (visits-of reader walk-of F work c input) (r .0 .number) (r .0 .place)
-  unfolding rename-call visits-of visits answered refusal
-  call-assigns F work c input buffer = go (open-input reader F work c input) (start reader F work c input)
+module _ {A : Type 0} (reader : Reader A) (walk-of : ℕ → A → M A) (bytes : A → Bytes) (s : (F : ℕ) (a : A) → Sound F (walk-of F a)) (F work c : ℕ) (input buffer : Bytes) where
+  -- of a call that answers this run
+  abbrev Claim : Out A → Type 0
+  Claim o = AssignsOrdered F (visits (events o)) (answered bytes c buffer o .0 .refusal)
+
+  call-assigns : Claim (call-run reader walk-of F work c input)
+  unfolding call-run answered refused-answer
+  call-assigns = go (open-input reader F work c input) (start reader F work c input)
     where
-      walked : (o : Out A) → Fine F o → AssignsOrdered F (visits o) (answered bytes c buffer o .0 .number) (answered bytes c buffer o .0 .place)
+      walked : (o : Out A) → Fine F o → Claim o
       walked (done log r c′ x) f = of-delivered F c buffer (bytes r) c′ f
-      walked (refused log n p) f = of-refused F (f .0) (f .1)
+      walked (refused log r) f = of-refused F (f .0) (f .1)
 
-      go : (o : Opened A) → Start reader F work c input o
-          → let r : Result = elim o [ closed n p ↦ refusal c buffer n p | opened a ↦ answered bytes c buffer (walk-of F a c 0) ] in
-          AssignsOrdered F (elim o [ closed n p ↦ [] | opened a ↦ visits (walk-of F a c 0) ]) (r .0 .number) (r .0 .place)
-      go (closed n p) e = of-done F all-none (omega arith)
+      go : (o : Opened A) → Start reader F work c input o → Claim (elim o [ closed r ↦ refused [] r | opened a ↦ walk-of F a c 0 ])
+      go (closed r) e = of-done F all-none (omega arith) (λ _ _. refl)
       go (opened a) e = walked (walk-of F a c 0) (s F a .fine c 0)
 
 module _ (F work c : ℕ) (input buffer : Bytes) where
-  pub whole-assigns : AssignsOrdered F (whole-visits F work c input) (whole-call F work c input buffer .0 .number) (whole-call F work c input buffer .0 .place)
-  unfolding whole-call whole-visits
+  pub whole-assigns : AssignsOrdered F (whole-visits F work c input) (whole-call F work c input buffer .0 .refusal)
+  unfolding whole-call whole-visits whole-run
   whole-assigns = call-assigns _ whole-walk form-bytes whole-sound F work c input buffer
 
-  pub children-assigns : AssignsOrdered F (children-visits F work c input) (children-call F work c input buffer .0 .number) (children-call F work c input buffer .0 .place)
-  unfolding children-call children-visits
+  pub children-assigns : AssignsOrdered F (children-visits F work c input) (children-call F work c input buffer .0 .refusal)
+  unfolding children-call children-visits children-run
   children-assigns = call-assigns _ children-walk form-bytes children-sound F work c input buffer
 
-  pub helper-assigns : AssignsOrdered F (helper-visits F work c input) (helper-call F work c input buffer .0 .number) (helper-call F work c input buffer .0 .place)
-  unfolding helper-call helper-visits
+  pub helper-assigns : AssignsOrdered F (helper-visits F work c input) (helper-call F work c input buffer .0 .refusal)
+  unfolding helper-call helper-visits helper-run
   helper-assigns = call-assigns _ helper-walk helper-bytes helper-sound F work c input buffer

@@ -5,30 +5,34 @@ use native.Mathlib.Omega.{arith}
 use Prim.Native.Nat.{ℕ, _+_, _-_, _≤_, _<_}
 use lib.ListN.{length, take, drop, length-append, length-drop}
 use lib.Seq.{take-take, length-take-le}
+use Rattle.names.specs.Maps.{NameMap}
 use Rattle.names.specs.Names.{Bytes, ascii}
 use Rattle.names.specs.Segments.{At, SameOutside, Filled}
-use Rattle.names.proofs.Frames.{same-refl, same-wider, same-then, at-below, filled-at}
-use Rattle.names.proofs.Parts.{into, part, back, part-length, same-back}
+use Rattle.names.specs.declared.Refusal.{Refusal}
+use Rattle.names.proofs.Frames.{same-refl, same-then, at-below, filled-at}
 use Rattle.names.proofs.Places.{at-whole, at-own, at-place, at-is, at-left, at-right}
 use Rattle.names.proofs.Segments.{filled-then}
 use Rattle.records.specs.Answer.{Gives, gave, refused}
 use Rattle.records.specs.Depth.{depth}
-use Rattle.records.specs.Records.{Loc, Parallel, Sequential, Pattern, Body, BL, BQ, BV, BC, BM, BF, Binding, BB, []ᵍ, _∷ᵍ_, byte, kind-field, list-of, loc-width, pattern-field, body-bytes, binding-bytes, bindings-bytes, bindings-count, record-bytes}
+use Rattle.records.specs.Records.{head-width, mark-width, Loc, Parallel, Sequential, Pattern, Body, BL, BQ, BV, BC, BM, BF, Binding, BB, []ᵍ, _∷ᵍ_, byte, kind-field, list-of, loc-width, pattern-field, body-bytes, binding-bytes, bindings-bytes, bindings-count, record-bytes}
 use Rattle.records.specs.Valid.{ValidLoc, BodyFields, BindingFields, lambda-depth, ValidBody, IsLet}
 use Rattle.records.specs.declared.Family.the-variants.{Binding as a-binding}
 use Rattle.records.specs.declared.Step.{Step}
 use Rattle.records.specs.declared.Step.the-variants.{Done, Refused}
-use Rattle.records.proofs.Answers.{made, unmade, gives-back}
+use Rattle.records.proofs.Answers.{made, unmade}
 use Rattle.records.specs.Lists.{joined, Each}
 use Rattle.records.specs.Parts.{Skips, family-part, ValidBinding}
 use Rattle.records.proofs.Lists.{list-count, list-bytes, list-valid}
-use Rattle.records.specs.Views.{mark-width, SeesLet}
+use Rattle.records.specs.Views.{SeesLet}
 use Rattle.records.specs.declared.LetView.{LetView}
-use Rattle.walk.specs.Arena.{head-width, fitting}
+use Rattle.walk.specs.Arena.{MapAt, Asks, fitting}
+use Rattle.walk.specs.Steps.{over-long}
 use Rattle.walk.specs.Bodyforms.{desugar-sequential-let-bindings}
-use Rattle.walk.specs.Leaves.{BodyAtStart, KeepsBody, Desugars, desugared, left-bytes, LetsLeft, Nests, let-head, let-of}
+use Rattle.walk.specs.Leaves.{ValidKind, KeepsBody, Desugars, desugared, Left, left-bytes, ValidLeft, Nests, let-head, let-of}
+use Rattle.walk.specs.declared.Task.{Task}
 use Rattle.walk.proofs.Fits.{Headed, done-is, whole, headed-refused, headed-done, read-wrote, fitting-long}
-use Rattle.walk.proofs.LeafLaws.{skipped}
+use Rattle.walk.proofs.MapLaws.{map-after}
+use Rattle.walk.proofs.OnParts.{from, rejoin, asks-part, part-frame, part-gives}
 
 -- the bytes of a let of one binding before its body, of its L and the binding's bytes
 abbrev let-bytes : Loc → Bytes → Bytes
@@ -71,33 +75,34 @@ let-written {xs} {a} {b} {d} {ys} {free} {n} {p} {q} {s} f g h k e1 e2 e3 lo le 
     subst (Filled xs ys free (let-of xs n)) e (filled-then {us = ascii "BL" ++ kind-field Parallel} f gk (omega arith) (omega arith))
 
 -- no binding is left
-pub body-left : {mem : Bytes} {free left : ℕ} (bs : List Binding) {b : Body} → length bs ≡ left → left ≡ 0 → LetsLeft mem free bs b → BodyAtStart mem free b
+pub body-left : {mem : Bytes} {left : ℕ} {t : Task} → left ≡ 0 → Asks left-bytes (ValidLeft left) mem t → Asks body-bytes ValidBody mem t
 unfolding joined
-body-left [] e z x = record { fields = x .body; there = x .there; below = x .below }
-body-left (y ∷ ys) e z x = absurd (omega arith)
-
-pub nests-none : {left : ℕ} {old new : Bytes} {free f c : ℕ} {r : Step} → left ≡ 0 → KeepsBody old new free f c r → Nests left old new free f c r
-unfolding joined desugar-sequential-let-bindings
-nests-none {left} {old} {new} {free} {f} {c} {r} z k = record { frame = k .frame; says = says }
+body-left {mem} {left} {t} z p = go (p .tree .0) (p .good .many) (p .there) (p .below)
   where
-    says : (bs : List Binding) (b : Body) → length bs ≡ left → LetsLeft old free bs b
-        → Gives body-bytes new free (length (left-bytes bs b)) (fitting body-bytes f c (desugar-sequential-let-bindings bs b)) r
-    says [] b e x = k .says b (x .there) (omega (arith, x .below)) (x .body)
-    says (y ∷ ys) b e x = absurd (omega arith)
+    go : (bs : List Binding) → length bs ≡ left → At mem 0 (left-bytes (bs, p .tree .1)) → length (left-bytes (bs, p .tree .1)) ≤ t .free → Asks body-bytes ValidBody mem t
+    go [] e there below = record { tree = p .tree .1; good = p .good .body; there = there; below = below; m = p .m; map = p .map; room = p .room }
+    go (y ∷ ys) e there below = absurd (omega arith)
+
+pub nests-none : {left : ℕ} {old new : Bytes} {t : Task} {r : Step} → left ≡ 0 → KeepsBody old new t r → Nests left old new t r
+unfolding joined desugar-sequential-let-bindings
+nests-none {left} {old} {new} {t} {r} z k = record { frame = k .frame; says = λ m map x there below v. go m map (x .0) (x .1) there below v }
+  where
+    go : (m : NameMap) → MapAt old (t .map) m → (bs : List Binding) (b : Body) → At old 0 (left-bytes (bs, b)) → length (left-bytes (bs, b)) ≤ t .free → ValidLeft left (bs, b)
+        → Gives body-bytes new (t .free) (length (left-bytes (bs, b))) (fitting body-bytes (t .f) (t .counter) (desugar-sequential-let-bindings bs b)) r
+    go m map [] b there below v = k .says m map b there below (v .body)
+    go m map (y ∷ ys) b there below v = absurd (omega (arith, v .many))
 
 -- the first binding that is left, of n bytes, and the let that it becomes around a body
-pub record First (mem : Bytes) (free n : ℕ) (bs : List Binding) (b : Body) : Type 0 where
+pub record First (mem : Bytes) (n : ℕ) (bs : List Binding) (b : Body) : Type 0 where
   pub rest : List Binding
   pub around : Body → Body
   pub is : desugar-sequential-let-bindings bs b ≡ around (desugar-sequential-let-bindings rest b)
   pub parts : (d : Body) → Headed body-bytes body-bytes (let-of mem n) (let-head + n) d (around d)
   pub count : length bs ≡ 1 + length rest
-  pub size : length (left-bytes bs b) ≡ n + length (left-bytes rest b)
+  pub size : length (left-bytes (bs, b)) ≡ n + length (left-bytes (rest, b))
   pub long : head-width ≤ n
-  pub below : n + length (left-bytes rest b) ≤ free
   pub bindings : Each ValidBinding rest
-  pub body : ValidBody b
-  pub there : At mem n (left-bytes rest b)
+  pub there : At mem n (left-bytes (rest, b))
 
 binding-is : (l nl : Loc) (p : Pattern) (e : Body) → binding-bytes (BB l nl p e) ≡ ascii "BB" ++ (l ++ flatten (nl ∷ pattern-field p ∷ body-bytes e ∷ []))
 unfolding binding-bytes record-bytes flatten
@@ -116,186 +121,213 @@ let-of-is {mem} {n} l nl p e w a z =
     let more = flatten (nl ∷ pattern-field p ∷ body-bytes e ∷ []) in
     let x : take n mem ≡ binding-bytes (BB l nl p e) = at-is 0 n refl z a in
     let y : take loc-width (drop mark-width mem) ≡ l =
-    at-is mark-width loc-width refl (sym w) (at-left l more (at-right (ascii "BB") (l ++ more) (subst (At mem 0) (binding-is l nl p e) a))) in
+    at-is mark-width loc-width refl (sym (w .width)) (at-left l more (at-right (ascii "BB") (l ++ more) (subst (At mem 0) (binding-is l nl p e) a))) in
     cc
 
-pub first : {mem : Bytes} {free n : ℕ} → Skips (family-part a-binding) mem n → (bs : List Binding) (b : Body) → 0 < length bs → LetsLeft mem free bs b
-    → First mem free n bs b
+pub first : {mem : Bytes} {n : ℕ} → Skips (family-part a-binding) mem n → (bs : List Binding) (b : Body) → 0 < length bs → Each ValidBinding bs → At mem 0 (left-bytes (bs, b))
+    → First mem n bs b
 unfolding joined Each desugar-sequential-let-bindings BindingFields ascii
-first sk [] b z x = absurd (omega arith)
-first {mem} {free} {n} sk (BB l nl p e ∷ bs) b z x =
+first sk [] b z v x = absurd (omega arith)
+first {mem} {n} sk (BB l nl p e ∷ bs) b z v x =
     let one = binding-bytes (BB l nl p e) in
-    let a = subst (At mem 0) (append-assoc one (joined binding-bytes bs) (body-bytes b)) (x .there) in
-    let here = at-left one (left-bytes bs b) a in
-    let sz = skipped sk (BB l nl p e) (x .bindings .0) here in
-    let w = x .bindings .0 .0 .0 in
-    let sum : length (left-bytes (BB l nl p e ∷ bs) b) ≡ length one + length (left-bytes bs b) =
-    ap length (append-assoc one (joined binding-bytes bs) (body-bytes b)) ∙ length-append one (left-bytes bs b) in
+    let a = subst (At mem 0) (append-assoc one (joined binding-bytes bs) (body-bytes b)) x in
+    let here = at-left one (left-bytes (bs, b)) a in
+    let sz = sk .skips (BB l nl p e) (v .0) here in
+    let w = v .0 .0 .0 in
+    let sum : length (left-bytes (BB l nl p e ∷ bs, b)) ≡ length one + length (left-bytes (bs, b)) =
+    ap length (append-assoc one (joined binding-bytes bs) (body-bytes b)) ∙ length-append one (left-bytes (bs, b)) in
     let more = flatten (nl ∷ pattern-field p ∷ body-bytes e ∷ []) in
     record {
       rest = bs;
       around = BL Parallel l (byte 0) (byte 0) (BB l nl p e ∷ᵍ []ᵍ);
       is = refl;
       parts = λ d. record {
-        width = ap length (let-of-is l nl p e w here sz) ∙ omega (arith, let-bytes-length l one w);
+        width = ap length (let-of-is l nl p e w here sz) ∙ omega (arith, let-bytes-length l one (w .width));
         bytes = let-is l nl p e d ∙ ap (λ (y : Bytes). y ++ body-bytes d) (sym (let-of-is l nl p e w here sz));
       };
       count = omega arith;
       size = omega arith;
-      below = omega (arith, x .below);
       long = omega (arith, ap length (binding-is l nl p e), length-append (ascii "BB") (l ++ more), length-append l more);
-      bindings = x .bindings .1;
-      body = x .body;
-      there = at-place n (omega arith) (at-right one (left-bytes bs b) a);
+      bindings = v .1;
+      there = at-place n (omega arith) (at-right one (left-bytes (bs, b)) a);
     }
 
-pub nested-no-room : {left : ℕ} {mem : Bytes} {free n f : ℕ} (c : ℕ) → Skips (family-part a-binding) mem n → 0 < left → f < let-head + n
-    → Nests left mem mem free f c (Refused 7 0)
-nested-no-room {f = f} c sk some lt =
-    record {
-      frame = same-refl;
-      says = λ bs b e x.
-          let v = first sk bs b (omega arith) x in
-          let d = desugar-sequential-let-bindings (v .rest) b in
-          refused 7 0 (ap (fitting body-bytes f c) (v .is) ∙ fitting-long body-bytes f c (v .around d) (omega (arith, whole (v .parts d)))) refl;
-    }
+-- a binding of n bytes is left
+module _ {mem : Bytes} {n left : ℕ} (sk : Skips (family-part a-binding) mem n) (some : 0 < left) where
+  first-of : (x : Left) → ValidLeft left x → At mem 0 (left-bytes x) → First mem n (x .0) (x .1)
+  first-of x v there = first sk (x .0) (x .1) (omega (arith, v .many)) (v .bindings) there
 
--- the part for the others is lent from behind the first
-pub lets-left : {mem a : Bytes} {free n : ℕ} {bs : List Binding} {b : Body} → Filled mem a free (let-of mem n) (let-head + n) → (v : First mem free n bs b)
-    → LetsLeft (part a n (length a - n)) (free + let-head) (v .rest) b
-lets-left w v = record { bindings = v .bindings; body = v .body; there = into (at-below (w .frame) (v .there) (v .below)); below = omega (arith, v .below) }
-
--- after the others: the let of the first is written at free, and theirs stand behind it
-module _ (c : ℕ) {mem a y : Bytes} {left free f n : ℕ} {r : Step} (sk : Skips (family-part a-binding) mem n) (w : Filled mem a free (let-of mem n) (let-head + n))
-    (s : Nests (left - 1) (part a n (length a - n)) y (free + let-head) (f - (let-head + n)) c r) (some : 0 < left) (le : let-head + n ≤ f)
-    (fit : free + f ≤ length mem) where
-  abbrev end : Bytes
-  end = back a n (length a - n) y
-
-  part-frame : SameOutside a end (free + (let-head + n)) (free + f)
-  part-frame =
-      let z = w .frame .size in
-      same-wider (free + (let-head + n)) (free + f) (omega arith) (omega arith) (same-back a n (length a - n) (omega arith) (s .frame) (omega arith) (omega arith))
-
-  framed : SameOutside mem end free (free + f)
-  framed = same-then free (free + f) (omega arith) (omega arith) (omega arith) (omega arith) (w .frame) part-frame
-
-  module _ {bs : List Binding} {b : Body} (e : length bs ≡ left) (v : First mem free n bs b) where
-    abbrev inner : Body
-    inner = desugar-sequential-let-bindings (v .rest) b
-
-    part-gives : Gives body-bytes end (free + (let-head + n)) (length (left-bytes (v .rest) b)) (fitting body-bytes (f - (let-head + n)) c inner) r
-    part-gives =
-        let z = w .frame .size in
-        let q : n + (free + let-head) ≡ free + (let-head + n) = omega arith in
-        let l = s .frame .size ∙ part-length a n (length a - n) (omega arith) in
-        rw q at (gives-back a n (length a - n) (omega arith) l (s .says (v .rest) b (omega (arith, v .count)) (lets-left w v)))
-
-    written : At end free (let-of mem n)
-    written =
-        let l = v .parts b .width in
-        at-below part-frame (filled-at free w (omega arith) (at-whole (let-of mem n)) (omega arith) (omega arith)) (omega arith)
-
-    -- what is read and written
-    pub nested-sums : (i j d : ℕ) → r ≡ Done i j d → (n + i ≡ length (left-bytes bs b)) × (let-head + n + j ≤ f)
-    nested-sums i j d q =
-        let k = read-wrote (v .parts inner) free f c le part-gives i j d q in
-        (omega (arith, k .0, v .size), k .1)
-
-  pub nested-refused : (k p : ℕ) → r ≡ Refused k p → Nests left mem end free f c (Refused k p)
-  nested-refused k p q =
+  pub nested-no-room : {t : Task} {r : Step} → r ≡ Refused over-long → t .f < let-head + n → Nests left mem mem t r
+  nested-no-room {t} is lt =
       record {
-        frame = framed;
-        says = λ bs b e x.
-            let v = first sk bs b (omega arith) x in
-            subst (λ (d : Body). Gives body-bytes end free (length (left-bytes bs b)) (fitting body-bytes f c d) (Refused k p)) (sym (v .is))
-            (headed-refused (v .parts (inner e v)) free f c le (part-gives e v) k p q);
+        frame = same-refl;
+        says = λ m map x there below v.
+            let k = first-of x v there in
+            let d = desugar-sequential-let-bindings (k .rest) (x .1) in
+            let long = fitting-long body-bytes (t .f) (t .counter) (k .around d) (omega (arith, whole (k .parts d))) in
+            refused over-long (ap (fitting body-bytes (t .f) (t .counter)) (k .is) ∙ long) is;
       }
 
-  pub nested-done : (i j d : ℕ) → r ≡ Done i j d → Nests left mem end free f c (Done (n + i) (let-head + n + j) d)
-  nested-done i j d q =
-      record {
-        frame = framed;
-        says = λ bs b e x.
-            let v = first sk bs b (omega arith) x in
-            subst (λ (t : Body). Gives body-bytes end free (length (left-bytes bs b)) (fitting body-bytes f c t) (Done (n + i) (let-head + n + j) d)) (sym (v .is))
-            (headed-done (v .parts (inner e v)) free f c le (part-gives e v) i j d q (written e v) (nested-sums e v i j d q .0));
-      }
+  module _ {t : Task} (p : Asks left-bytes (ValidLeft left) mem t) where
+    pub here : First mem n (p .tree .0) (p .tree .1)
+    here = first-of (p .tree) (p .good) (p .there)
+
+    pub first-low : n ≤ t .free
+    first-low = omega (arith, here .size, p .below)
+
+    -- what the others are given
+    abbrev rest-task : Task
+    rest-task = record { free = t .free + let-head; map = t .map; f = t .f - (let-head + n); depth = t .depth; counter = t .counter }
+
+    -- the let of the first is written at free
+    module _ {a : Bytes} (w : Filled mem a (t .free) (let-of mem n) (let-head + n)) (le : let-head + n ≤ t .f) where
+      fit : n + (t .free + let-head) + (t .f - (let-head + n)) + t .map ≤ length a
+      fit = omega (arith, w .frame .size, p .room)
+
+      valid-rest : {x : Left} → ValidLeft left x → (k : First mem n (x .0) (x .1)) → ValidLeft (left - 1) (k .rest, x .1)
+      valid-rest v k = record { many = omega (arith, v .many, k .count); bindings = k .bindings; body = v .body }
+
+      pub rest-asks : Asks left-bytes (ValidLeft (left - 1)) (from a n) rest-task
+      rest-asks =
+          let k = here in
+          asks-part n (k .rest, p .tree .1) (valid-rest (p .good) k) (at-below (w .frame) (k .there) (omega (arith, k .size, p .below))) (omega (arith, k .size, p .below))
+          (map-after (w .frame) (omega (arith, p .room)) (p .map)) fit
+
+      -- the others are answered
+      module _ {y : Bytes} {r : Step} (s : Nests (left - 1) (from a n) y rest-task r) where
+        abbrev end : Bytes
+        end = rejoin a n y
+
+        rest-frame : SameOutside a end (t .free + (let-head + n)) (t .free + t .f)
+        rest-frame = part-frame n fit s (t .free + (let-head + n)) (t .free + t .f) (omega arith) (omega arith)
+
+        framed : SameOutside mem end (t .free) (t .free + t .f)
+        framed = same-then (t .free) (t .free + t .f) (omega arith) (omega arith) (omega arith) (omega arith) (w .frame) rest-frame
+
+        module _ {m : NameMap} (map : MapAt mem (t .map) m) {x : Left} (v : ValidLeft left x) (k : First mem n (x .0) (x .1)) (below : length (left-bytes x) ≤ t .free) where
+          abbrev inner : Body
+          inner = desugar-sequential-let-bindings (k .rest) (x .1)
+
+          rest-gives : Gives body-bytes end (t .free + (let-head + n)) (length (left-bytes (k .rest, x .1))) (fitting body-bytes (t .f - (let-head + n)) (t .counter) inner) r
+          rest-gives =
+              part-gives n fit s (t .free + (let-head + n)) (omega arith) (map-after (w .frame) (omega (arith, p .room)) map) (k .rest, x .1)
+              (at-below (w .frame) (k .there) (omega (arith, k .size))) (omega (arith, k .size)) (valid-rest v k)
+
+          written : At end (t .free) (let-of mem n)
+          written =
+              let l = k .parts (x .1) .width in
+              at-below rest-frame (filled-at (t .free) w (omega (arith, p .room)) (at-whole (let-of mem n)) (omega arith) (omega arith)) (omega arith)
+
+          -- what is read and written
+          sums : (i j d : ℕ) → r ≡ Done i j d → (n + i ≡ length (left-bytes x)) × (let-head + n + j ≤ t .f)
+          sums i j d q =
+              let g = read-wrote (k .parts inner) (t .free) (t .f) (t .counter) le rest-gives i j d q in
+              (omega (arith, g .0, k .size), g .1)
+
+        pub nested-sums : (i j d : ℕ) → r ≡ Done i j d → (n + i ≤ t .free) × (let-head + n + j ≤ t .f)
+        nested-sums i j d q = let k = sums (p .map) (p .good) here (p .below) i j d q in (omega (arith, k .0, p .below), k .1)
+
+        pub nested-refused : (i : Refusal) → r ≡ Refused i → Nests left mem end t (Refused i)
+        nested-refused i q =
+            record {
+              frame = framed;
+              says = λ m map x there below v.
+                  let k = first-of x v there in
+                  subst (λ (d : Body). Gives body-bytes end (t .free) (length (left-bytes x)) (fitting body-bytes (t .f) (t .counter) d) (Refused i)) (sym (k .is))
+                  (headed-refused (k .parts (inner map v k below)) (t .free) (t .f) (t .counter) le (rest-gives map v k below) i q);
+            }
+
+        pub nested-done : (i j d : ℕ) → r ≡ Done i j d → Nests left mem end t (Done (n + i) (let-head + n + j) d)
+        nested-done i j d q =
+            record {
+              frame = framed;
+              says = λ m map x there below v.
+                  let k = first-of x v there in
+                  subst (λ (u : Body). Gives body-bytes end (t .free) (length (left-bytes x)) (fitting body-bytes (t .f) (t .counter) u) (Done (n + i) (let-head + n + j) d)) (sym (k .is))
+                  (headed-done (k .parts (inner map v k below)) (t .free) (t .f) (t .counter) le (rest-gives map v k below) i j d q (written map v k below)
+                  (sums map v k below i j d q .0));
+            }
 
 -- a let at the start: its bindings and its body, and what it is desugared to
-pub record Let (mem : Bytes) (v : LetView) (t : Body) : Type 0 where
-  pub bs : List Binding
-  pub b : Body
-  pub is : desugared t ≡ desugar-sequential-let-bindings bs b
-  pub count : length bs ≡ v .count
-  pub size : length (body-bytes t) ≡ v .first + length (left-bytes bs b)
-  pub bindings : Each ValidBinding bs
-  pub body : ValidBody b
-  pub there : At mem (v .first) (left-bytes bs b)
+record Let (mem : Bytes) (v : LetView) (b : Body) : Type 0 where
+  x : Left
+  is : desugared b ≡ desugar-sequential-let-bindings (x .0) (x .1)
+  valid : ValidLeft (v .count) x
+  size : length (body-bytes b) ≡ v .first + length (left-bytes x)
+  there : At mem (v .first) (left-bytes x)
 
-pub let-of-view : {mem : Bytes} {v : LetView} → SeesLet mem v → (t : Body) → IsLet Sequential t → ValidBody t → At mem 0 (body-bytes t) → Let mem v t
+let-of-view : {mem : Bytes} {v : LetView} → SeesLet mem v → (t : Body) → ValidKind (IsLet Sequential) t → At mem 0 (body-bytes t) → Let mem v t
 unfolding IsLet BodyFields depth lambda-depth flatten desugared
-let-of-view {mem} {v} x (BL k l w h bs b) i f a =
+let-of-view {mem} {v} x (BL k l w h bs b) i a =
+    let f = i .valid in
     let c = x .closes k l w h bs b f a in
-    let e : bindings-bytes bs ++ (body-bytes b ++ []) ≡ left-bytes (list-of bs) b =
+    let e : bindings-bytes bs ++ (body-bytes b ++ []) ≡ left-bytes (list-of bs, b) =
     ap (λ (y : Bytes). bindings-bytes bs ++ y) (append-nil (body-bytes b)) ∙ ap (λ (y : Bytes). y ++ body-bytes b) (sym (list-bytes bs)) in
     record {
-      bs = list-of bs;
-      b = b;
+      x = (list-of bs, b);
       is = refl;
-      count = sym (x .sees k l w h bs b f a .count ∙ sym (list-count bs));
+      valid = record {
+        many = sym (x .sees k l w h bs b f a .count ∙ sym (list-count bs));
+        bindings = list-valid bs (f .0 .4) (omega arith) (omega arith);
+        body = (f .0 .5, omega arith, omega arith);
+      };
       size = omega (arith, c .whole, ap length e);
-      bindings = list-valid bs (f .0 .4) (omega arith) (omega arith);
-      body = (f .0 .5, omega arith, omega arith);
       there = subst (At mem (v .first)) e (c .there .there);
     }
-let-of-view x (BQ s) i f a = absurd i
-let-of-view x (BV s) i f a = absurd i
-let-of-view x (BC l bs t) i f a = absurd i
-let-of-view x (BM l g) i f a = absurd i
-let-of-view x (BF l w ca k u b) i f a = absurd i
+let-of-view x (BQ s) i a = absurd (i .only)
+let-of-view x (BV s) i a = absurd (i .only)
+let-of-view x (BC l bs t) i a = absurd (i .only)
+let-of-view x (BM l g) i a = absurd (i .only)
+let-of-view x (BF l w ca k u b) i a = absurd (i .only)
 
--- the part for its bindings is lent from the first on
-pub let-left : {mem : Bytes} {v : LetView} {free : ℕ} {t : Body} (k : Let mem v t) → length (body-bytes t) ≤ free
-    → LetsLeft (part mem (v .first) (length mem - v .first)) (free - v .first) (k .bs) (k .b)
-let-left k le = record { bindings = k .bindings; body = k .body; there = into (k .there); below = omega (arith, k .size) }
+module _ {mem : Bytes} {v : LetView} {t : Task} (x : SeesLet mem v) (p : Asks body-bytes (ValidKind (IsLet Sequential)) mem t) where
+  the-let : Let mem v (p .tree)
+  the-let = let-of-view x (p .tree) (p .good) (p .there)
 
--- their answer, of the whole
-module _ (c : ℕ) {mem y : Bytes} {v : LetView} {free f : ℕ} {r : Step} {t₀ : Body} (x : SeesLet mem v)
-    (s : Nests (v .count) (part mem (v .first) (length mem - v .first)) y (free - v .first) f c r)
-    (fit : free + f ≤ length mem) (here : Let mem v t₀) (low : length (body-bytes t₀) ≤ free) where
-  abbrev all : Bytes
-  all = back mem (v .first) (length mem - v .first) y
+  pub let-low : v .first ≤ t .free
+  let-low = omega (arith, the-let .size, p .below)
 
-  place : v .first + (free - v .first) ≡ free
-  place = omega (arith, here .size)
+  -- what its bindings are given
+  abbrev let-task : Task
+  let-task = record { free = t .free - v .first; map = t .map; f = t .f; depth = t .depth; counter = t .counter }
 
-  all-frame : SameOutside mem all free (free + f)
-  all-frame =
-      let e = place in
-      same-wider free (free + f) (omega arith) (omega arith) (same-back mem (v .first) (length mem - v .first) (omega arith) (s .frame) (omega arith) (omega arith))
+  let-fit : v .first + (t .free - v .first) + t .f + t .map ≤ length mem
+  let-fit = omega (arith, let-low, p .room)
 
-  all-gives : {t : Body} (k : Let mem v t) → length (body-bytes t) ≤ free
-      → Gives body-bytes all free (length (left-bytes (k .bs) (k .b))) (fitting body-bytes f c (desugared t)) r
-  all-gives {t} k le =
-      let e = place in
-      let l = s .frame .size ∙ part-length mem (v .first) (length mem - v .first) (omega arith) in
-      let g = gives-back mem (v .first) (length mem - v .first) (omega arith) l (s .says (k .bs) (k .b) (k .count) (let-left k le)) in
-      rw (k .is) (rw e at g)
+  pub let-asks : Asks left-bytes (ValidLeft (v .count)) (from mem (v .first)) let-task
+  let-asks = let k = the-let in asks-part (v .first) (k .x) (k .valid) (k .there) (omega (arith, k .size, p .below)) (p .map) let-fit
 
-  pub let-refused : (i p : ℕ) → r ≡ Refused i p → Desugars mem all free f c (Refused i p)
-  let-refused i p e = record { frame = all-frame; says = λ t a le w. refused i p (unmade i p e (all-gives (let-of-view x t (w .0) (w .1) a) (omega arith))) refl }
+  -- their answer, of the whole
+  module _ {y : Bytes} {r : Step} (s : Nests (v .count) (from mem (v .first)) y let-task r) where
+    abbrev all : Bytes
+    all = rejoin mem (v .first) y
 
-  pub let-done : (i j d : ℕ) → r ≡ Done i j d → Desugars mem all free f c (Done (v .first + i) j d)
-  let-done i j d e =
-      record {
-        frame = all-frame;
-        says = λ t a le w.
-            let k = let-of-view x t (w .0) (w .1) a in
-            let m = made i j d e (all-gives k (omega arith)) in
-            gave (m .u) d (m .is) (done-is (omega (arith, m .read, k .size)) (m .wrote) refl) (m .out);
-      }
+    all-frame : SameOutside mem all (t .free) (t .free + t .f)
+    all-frame = let l = let-low in part-frame (v .first) let-fit s (t .free) (t .free + t .f) (omega arith) (omega arith)
 
-  -- what is read
-  pub let-read : (i j d : ℕ) → r ≡ Done i j d → v .first + i ≡ length (body-bytes t₀)
-  let-read i j d e = let m = made i j d e (all-gives here low) in omega (arith, m .read, here .size)
+    all-gives : {m : NameMap} {b : Body} → MapAt mem (t .map) m → (k : Let mem v b) → length (body-bytes b) ≤ t .free
+        → Gives body-bytes all (t .free) (length (left-bytes (k .x))) (fitting body-bytes (t .f) (t .counter) (desugared b)) r
+    all-gives map k le =
+        let l = let-low in
+        rw (k .is) (part-gives (v .first) let-fit s (t .free) (omega arith) map (k .x) (k .there) (omega (arith, k .size)) (k .valid))
+
+    pub let-refused : (k : Refusal) → r ≡ Refused k → Desugars mem all t (Refused k)
+    let-refused k e =
+        record {
+          frame = all-frame;
+          says = λ m map b there below good. refused k (unmade k e (all-gives map (let-of-view x b good there) below)) refl;
+        }
+
+    pub let-done : (i j d : ℕ) → r ≡ Done i j d → Desugars mem all t (Done (v .first + i) j d)
+    let-done i j d e =
+        record {
+          frame = all-frame;
+          says = λ m map b there below good.
+              let k = let-of-view x b good there in
+              let z = made i j d e (all-gives map k below) in
+              gave (z .u) d (z .is) (done-is (omega (arith, z .read, k .size)) (z .wrote) refl) (z .out);
+        }
+
+    -- what is read
+    pub let-read : (i j d : ℕ) → r ≡ Done i j d → v .first + i ≤ t .free
+    let-read i j d e = let z = made i j d e (all-gives (p .map) the-let (p .below)) in omega (arith, z .read, the-let .size, p .below)

@@ -9,24 +9,26 @@ use lib.Dec.{leb}
 use lib.ListN.{length, length-append}
 use Rattle.names.specs.Names.{Bytes}
 use Rattle.names.specs.Segments.{At}
+use Rattle.names.specs.declared.Refusal.{Refusal}
 use Rattle.names.proofs.Places.{at-place, at-left, at-right, at-join}
 use Rattle.records.specs.Answer.{Outcome, gives, refuses, Gives, gave, refused}
 use Rattle.records.specs.declared.Step.{Step}
 use Rattle.records.specs.declared.Step.the-variants.{Done, Refused}
 use Rattle.records.proofs.Answers.{made, unmade}
 use Rattle.walk.specs.Arena.{fitting}
+use Rattle.walk.specs.Steps.{over-long}
 
 module _ {A : Type 0} (bytes : A → Bytes) (f c : ℕ) (u : A) where
   pub fitting-fits : length (bytes u) ≤ f → fitting bytes f c u ≡ gives u c
   unfolding fitting
   fitting-fits le = rw (le-leb _ _ le, fitting)
 
-  pub fitting-long : f < length (bytes u) → fitting bytes f c u ≡ refuses 7 0
+  pub fitting-long : f < length (bytes u) → fitting bytes f c u ≡ refuses over-long
   unfolding fitting
   fitting-long lt = rw (lt-leb _ _ lt, fitting)
 
   -- by whether it fits
-  fitting-cases : (P : Outcome A → Type 0) → (length (bytes u) ≤ f → P (gives u c)) → (f < length (bytes u) → P (refuses 7 0)) → P (fitting bytes f c u)
+  fitting-cases : (P : Outcome A → Type 0) → (length (bytes u) ≤ f → P (gives u c)) → (f < length (bytes u) → P (refuses over-long)) → P (fitting bytes f c u)
   fitting-cases P y n = go (leb (length (bytes u)) f) refl
     where
       go : (b : Bool) → leb (length (bytes u)) f ≡ b → P (fitting bytes f c u)
@@ -44,14 +46,12 @@ module _ {A : Type 0} (bytes : A → Bytes) (f c : ℕ) (u : A) where
       (λ lt e. let z : _≡_ {A = ℕ} 0 1 = cc in absurd (omega arith))
 
   -- it is refused
-  pub record TooLong (k p : ℕ) : Type 0 where
-    pub number : k ≡ 7
-    pub place : p ≡ 0
+  pub record Long (k : Refusal) : Type 0 where
+    pub is : k ≡ over-long
     pub long : f < length (bytes u)
 
-  pub too-long : (k p : ℕ) → fitting bytes f c u ≡ refuses k p → TooLong k p
-  too-long k p = fitting-cases (λ o. o ≡ refuses k p → TooLong k p) (λ le e. let z : _≡_ {A = ℕ} 0 1 = cc in absurd (omega arith))
-      (λ lt e. record { number = cc; place = cc; long = lt })
+  pub refused-long : (k : Refusal) → fitting bytes f c u ≡ refuses k → Long k
+  refused-long k = fitting-cases (λ o. o ≡ refuses k → Long k) (λ le e. let z : _≡_ {A = ℕ} 0 1 = cc in absurd (omega arith)) (λ lt e. record { is = cc; long = lt })
 
 -- it was given, and stands at p
 pub record Given {A : Type 0} (bytes : A → Bytes) (new : Bytes) (p size f c : ℕ) (u : A) (i j d : ℕ) : Type 0 where
@@ -77,6 +77,19 @@ given {A} {bytes} {new} {p} f c u i j d e x =
 pub done-is : {a b c x y z : ℕ} → a ≡ x → b ≡ y → c ≡ z → _≡_ {A = Step} (Done a b c) (Done x y z)
 done-is p q r = cc
 
+-- a tree in place of another one of the same bytes
+pub same-bytes : {A B : Type 0} (f : A → Bytes) (g : B → Bytes) {new : Bytes} {p size : ℕ} {r : Step} (F c : ℕ) (a : A) (b : B) → f a ≡ g b
+    → Gives f new p size (fitting f F c a) r → Gives g new p size (fitting g F c b) r
+same-bytes f g {new} {p} F c a b e (gave u d i x h) =
+    let y = fitted f F c a u d i in
+    let z : f u ≡ g b = ap f (y .same-tree) ∙ e in
+    let l = ap length e in
+    gave b c (fitting-fits g F c b (omega (arith, y .short))) (x ∙ done-is refl (ap length z) (y .same-counter)) (subst (At new p) z h)
+same-bytes f g F c a b e (refused k i x) =
+    let y = refused-long f F c a k i in
+    let l = ap length e in
+    refused k (fitting-long g F c b (omega (arith, y .long)) ∙ cc (y .is)) x
+
 -- v has the bytes of u behind a head of h bytes
 pub record Headed {A B : Type 0} (f : A → Bytes) (g : B → Bytes) (head : Bytes) (h : ℕ) (u : A) (v : B) : Type 0 where
   pub width : length head ≡ h
@@ -94,10 +107,10 @@ module _ {A B : Type 0} {f : A → Bytes} {g : B → Bytes} {head : Bytes} {h : 
 
   -- what is answered of v where the answer of u is r
   module _ (free F c : ℕ) {new : Bytes} {size : ℕ} {r : Step} (le : h ≤ F) (x : Gives f new (free + h) size (fitting f (F - h) c u) r) where
-    pub headed-refused : {n : ℕ} (i p : ℕ) → r ≡ Refused i p → Gives g new free n (fitting g F c v) (Refused i p)
-    headed-refused i p e =
-        let y = too-long f (F - h) c u i p (unmade i p e x) in
-        refused i p (fitting-long g F c v (omega (arith, whole, y .long)) ∙ cc (y .number, y .place)) refl
+    pub headed-refused : {n : ℕ} (i : Refusal) → r ≡ Refused i → Gives g new free n (fitting g F c v) (Refused i)
+    headed-refused i e =
+        let y = refused-long f (F - h) c u i (unmade i e x) in
+        refused i (fitting-long g F c v (omega (arith, whole, y .long)) ∙ cc (y .is)) refl
 
     -- what was read and written of u
     pub read-wrote : (i j d : ℕ) → r ≡ Done i j d → (i ≡ size) × (h + j ≤ F)

@@ -1,53 +1,65 @@
--- More fuel changes no finished result. Assumes nothing.
-use mathlib.Core.Path.{_≡_, refl, ap}
+-- More fuel changes nothing, unless the fuel runs out. Assumes nothing.
+use mathlib.Core.Path.{_≡_, refl, ap, _∙_}
+use mathlib.Core.Logic.{_⊎_, inl, inr}
 use mathlib.Core.List.{List, [], _∷_}
 use Prim.Native.Nat.{ℕ, zero, suc, _≤_}
 use native.Mathlib.Omega.{arith}
 use mathlib.Core.Option.{Option}
 use Rattle.names.specs.Names.{Bytes}
 use Rattle.names.specs.Maps.{NameMap}
-use Rattle.records.specs.Records.{Loc, loc-number, Parallel, Sequential, Assign, Name, Complex, Body, BL, BQ, BV, BC, BM, BF, Bodies, []ᵇ, _∷ᵇ_, Tail, no-tail, tail, Binding, BB, list-of}
+use Rattle.records.specs.Records.{Loc, Parallel, Sequential, Assign, Name, Complex, Body, BL, BQ, BV, BC, BM, BF, Bodies, []ᵇ, _∷ᵇ_, Tail, no-tail, tail, Binding, BB, list-of}
 use Rattle.ordering.specs.Toposort.{Outcome, ordered, deadlock}
 use Rattle.ordering.specs.Words.{toposort-assign-bindings}
-use Rattle.walk.specs.Steps.{M, Out, done, refused, Visit, refuse, out-of-fuel, _>>=_, after, step, child, further, fits}
-use Rattle.walk.specs.Bodyforms.{each-body, call-tail, each-binding-body, Rules, args-then-in, rename-args-let, rename-args-desugared, rename-args-sequential, rename-assign-binding, rename-assign-bindings, rename-args-ordered, rename-args-assign, rename-args-bodyform, in-elements, rename-in-bodyform, body-rules, walk, log-assign, logged}
+use Rattle.walk.specs.Steps.{M, Out, Event, done, refused, Visit, refuse, out-of-fuel, _>>=_, after, step, child, further, fits}
+use Rattle.walk.specs.Bodyforms.{each-body, call-tail, each-binding-body, Rules, args-then-in, rename-args-let, rename-args-desugared, rename-args-sequential, rename-assign-binding, rename-assign-bindings, rename-args-ordered, rename-args-assign, rename-args-bodyform, in-elements, rename-in-bodyform, body-rules, walk, deadlocked, log-assign, logged, rename-in-quoted, rename-in-value}
 
--- where the first is finished, the second is the same
+-- the fuel ran out
+abbrev pub OutOfFuel : {A : Type 0} → Out A → Type 0
+OutOfFuel (done log a c x) = ⊥
+OutOfFuel (refused log r) = r ≡ out-of-fuel
+
+-- unless the first ran out of fuel, the second is the same
 abbrev pub Agrees : {A : Type 0} → Out A → Out A → Type 0
-Agrees (done log a c x) o = o ≡ done log a c x
-Agrees (refused log n p) o = Unit {0}
+Agrees o o′ = OutOfFuel o ⊎ (o′ ≡ o)
 
 pub record Less {A : Type 0} (m k : M A) : Type 0 where
   pub agrees : (c x : ℕ) → Agrees (m c x) (k c x)
 
 module _ {A : Type 0} where
-  agrees-refl : (o : Out A) → Agrees o o
-  agrees-refl (done log a c x) = refl
-  agrees-refl (refused log n p) = tt
-
   less-refl : (m : M A) → Less m m
-  less-refl m = record { agrees = λ c x. agrees-refl (m c x) }
+  less-refl m = record { agrees = λ c x. inr refl }
 
-  less-out : (k : M A) → Less (refuse out-of-fuel 0) k
+  less-out : (k : M A) → Less (refuse out-of-fuel) k
   unfolding refuse
-  less-out k = record { agrees = λ c x. tt }
+  less-out k = record { agrees = λ c x. inl refl }
 
-  agrees-after : (log : List Visit) (o o′ : Out A) → Agrees o o′ → Agrees (after log o) (after log o′)
+  agrees-after : (log : List Event) (o o′ : Out A) → Agrees o o′ → Agrees (after log o) (after log o′)
   unfolding after
-  agrees-after log (done log₂ a c x) o′ e = ap (after log) e
-  agrees-after log (refused log₂ n p) o′ e = tt
+  agrees-after log (done log₂ a c x) o′ (inl f) = absurd f
+  agrees-after log (refused log₂ r) o′ (inl f) = inl f
+  agrees-after log o o′ (inr e) = inr (ap (after log) e)
 
-  pub agreed : {m k : M A} {c x c′ x′ : ℕ} {log : List Visit} {a : A} → Less m k → m c x ≡ done log a c′ x′ → k c x ≡ done log a c′ x′
-  agreed {m} {k} {c} {x} s e = rw e at (s .agrees c x)
+  -- the two are the same
+  pub same-run : {m k : M A} (c x : ℕ) → Less m k → ¬ OutOfFuel (m c x) → k c x ≡ m c x
+  same-run {m} {k} c x s h = go (s .agrees c x)
+    where
+      go : Agrees (m c x) (k c x) → k c x ≡ m c x
+      go (inl f) = absurd (h f)
+      go (inr e) = e
+
+  pub agreed : {m k : M A} {c x c′ x′ : ℕ} {log : List Event} {a : A} → Less m k → m c x ≡ done log a c′ x′ → k c x ≡ done log a c′ x′
+  agreed {m} {k} {c} {x} s e = same-run c x s (rw e (λ f. f)) ∙ e
 
 less-bind : {A B : Type 0} {m m′ : M A} {k k′ : A → M B} → Less m m′ → ((a : A) → Less (k a) (k′ a)) → Less (m >>= k) (m′ >>= k′)
 unfolding _>>=_
 less-bind {A} {B} {m} {m′} {k} {k′} s t = record { agrees = λ c x. go (m c x) (m′ c x) (s .agrees c x) }
   where
     go : (o o′ : Out A) → Agrees o o′
-        → Agrees {A = B} (elim o [ done log a c x ↦ after log (k a c x) | refused log n p ↦ refused log n p ]) (elim o′ [ done log a c x ↦ after log (k′ a c x) | refused log n p ↦ refused log n p ])
-    go (done log a c x) o′ e = rw e (agrees-after log (k a c x) (k′ a c x) (t a .agrees c x))
-    go (refused log n p) o′ e = tt
+        → Agrees {A = B} (elim o [ done log a c x ↦ after log (k a c x) | refused log r ↦ refused log r ]) (elim o′ [ done log a c x ↦ after log (k′ a c x) | refused log r ↦ refused log r ])
+    go (done log a c x) o′ (inl f) = absurd f
+    go (done log a c x) o′ (inr e) = rw e (agrees-after log (k a c x) (k′ a c x) (t a .agrees c x))
+    go (refused log r) o′ (inl f) = inl f
+    go (refused log r) o′ (inr e) = rw e (inr refl)
 
 module _ (F : ℕ) where
   module _ {A : Type 0} (size : A → ℕ) where
@@ -56,9 +68,11 @@ module _ (F : ℕ) where
     less-step {m} {m′} s = record { agrees = λ c x. go x (m c 0) (m′ c 0) (s .agrees c 0) }
       where
         go : (x : ℕ) (o o′ : Out A) → Agrees o o′
-            → Agrees {A = A} (elim o [ done log a c h ↦ after log (fits F size a c x) | refused log n p ↦ refused log n p ]) (elim o′ [ done log a c h ↦ after log (fits F size a c x) | refused log n p ↦ refused log n p ])
-        go x (done log a c h) o′ e = rw e (agrees-refl (after log (fits F size a c x)))
-        go x (refused log n p) o′ e = tt
+            → Agrees {A = A} (elim o [ done log a c h ↦ after log (fits F size a c x) | refused log r ↦ refused log r ]) (elim o′ [ done log a c h ↦ after log (fits F size a c x) | refused log r ↦ refused log r ])
+        go x (done log a c h) o′ (inl f) = absurd f
+        go x (done log a c h) o′ (inr e) = rw e (inr refl)
+        go x (refused log r) o′ (inl f) = inl f
+        go x (refused log r) o′ (inr e) = rw e (inr refl)
 
     less-child : {m m′ : M A} → Less m m′ → Less (child F size m) (child F size m′)
     unfolding child
@@ -122,7 +136,7 @@ module _ (F : ℕ) where
     less-rename-args-assign l k h bs b = go (toposort-assign-bindings bs)
       where
         go : (o : Outcome)
-            → Less {A = Body} (elim o as (λ _. M Body) [ deadlock _ ↦ refuse 5 (loc-number l) | ordered is ↦ rename-args-ordered F r l k h bs b is ]) (elim o as (λ _. M Body) [ deadlock _ ↦ refuse 5 (loc-number l) | ordered is ↦ rename-args-ordered F r′ l k h bs b is ])
+            → Less {A = Body} (elim o as (λ _. M Body) [ deadlock _ ↦ refuse (deadlocked l) | ordered is ↦ rename-args-ordered F r l k h bs b is ]) (elim o as (λ _. M Body) [ deadlock _ ↦ refuse (deadlocked l) | ordered is ↦ rename-args-ordered F r′ l k h bs b is ])
         go (deadlock l′) = less-refl _
         go (ordered is) = less-bind (less-rename-assign-bindings bs is [] []) λ u. less-bind (less-args-then-in (u .0) b) λ b′. less-refl _
 
@@ -143,7 +157,7 @@ module _ (F : ℕ) where
     less-in-elements m (b ∷ᵇ bs) = less-bind (less-child _ (s .in-bodyform m b)) λ b′. less-bind (less-refl _) λ b″. less-bind (less-each-body (s .in-bodyform m) bs) λ bs′. less-refl _
 
     less-rename-in-bodyform : (m : NameMap) (b : Body) → Less (rename-in-bodyform F r m b) (rename-in-bodyform F r′ m b)
-    unfolding rename-in-bodyform
+    unfolding rename-in-quoted rename-in-value rename-in-bodyform
     less-rename-in-bodyform m (BL k l w h bs b) = less-bind (less-each-binding-body (s .in-bodyform m) (list-of bs)) λ bs′. less-bind (less-child _ (s .in-bodyform m b)) λ b′. less-refl _
     less-rename-in-bodyform m (BQ x) = less-refl _
     less-rename-in-bodyform m (BV x) = less-refl _
@@ -153,8 +167,9 @@ module _ (F : ℕ) where
 
   agrees-logged : (e : Option Body → Visit) (o o′ : Out Body) → Agrees o o′ → Agrees (logged e o) (logged e o′)
   unfolding logged
-  agrees-logged e (done log a c x) o′ q = ap (logged e) q
-  agrees-logged e (refused log n p) o′ q = tt
+  agrees-logged e (done log a c x) o′ (inl f) = absurd f
+  agrees-logged e (refused log r) o′ (inl f) = inl f
+  agrees-logged e o o′ (inr q) = inr (ap (logged e) q)
 
   less-reach : {m m′ : M Body} (b : Body) → Less m m′ → Less (log-assign b m) (log-assign b m′)
   unfolding log-assign

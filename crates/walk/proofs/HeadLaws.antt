@@ -1,6 +1,6 @@
 -- The plan of an SC by the word at its head. Assumes nothing.
 use mathlib.Core.Path.{_≡_, refl, sym, ap, subst, _∙_}
-use mathlib.Core.Bool.{Bool, true, false, not, _&&_}
+use mathlib.Core.Bool.{Bool, true, false, _&&_}
 use mathlib.Core.Option.{Option, none, some}
 use native.Mathlib.Omega.{arith}
 use Prim.Native.Nat.{ℕ, _+_, _-_, _≤_}
@@ -11,14 +11,16 @@ use Rattle.names.specs.Names.{Bytes, ascii}
 use Rattle.names.specs.Segments.{At}
 use Rattle.names.proofs.Parts.{into, part, at-from-part}
 use Rattle.names.proofs.Places.{at-place}
-use Rattle.records.specs.Records.{Loc, Sexp, SN, SC, SI, SQ, SA, sexp-bytes}
+use Rattle.records.specs.Records.{head-width, Loc, Sexp, SN, SC, SI, SQ, SA, sexp-bytes}
 use Rattle.records.specs.Sexps.{nilp, loc-of, is-atom, only}
-use Rattle.records.specs.Valid.{SexpFields}
-use Rattle.walk.specs.Arena.{head-width, Measures}
+use Rattle.records.specs.Valid.{SexpFields, cons-depth}
+use Rattle.records.specs.Parts.{Skips, fields-part}
 use Rattle.walk.specs.Plans.{substitution, Lone, HeadAt, IsAtom, SingleAt, single-none, single-one, Singles, keeps, quotes, goes-alone, goes-on, PlansPair}
 use Rattle.walk.specs.RenameInCons.{requote, rename-in-cons, rename-in-qq, only-in-cons, only-in-qq}
 use Rattle.walk.specs.declared.Plan.the-variants.{Kept, Requoted, Alone, Parts}
-use Rattle.walk.proofs.Pairs.{cons, cons-length}
+use Rattle.walk.specs.declared.Quasi.{Quasi}
+use Rattle.walk.specs.declared.Quasi.the-variants.{Outside, Inside}
+use Rattle.walk.proofs.Pairs.{cons, cons-length, cons-deeper}
 
 -- the element behind the head
 pub record Element (s : Bytes) (h : Sexp) (x : Sexp) (n : ℕ) : Type 0 where
@@ -162,9 +164,9 @@ module _ {s : Bytes} {x : ℕ} (l : Loc) (h u : Sexp) (fine : SexpFields (SC l h
       go (single-one k y z i n p) = record { k = k; y = y; z = z; is = i; ends = n; place = p }
 
   -- it goes on alone
-  lone : {inside qq : Bool} (j : Tail h u x) → ((m : NameMap) → substitution inside qq m (SC l h (SC (j .k) (j .y) (j .z))) ≡ substitution (not inside) qq m (j .y))
-      → Lone inside qq s (SC l h u) x
-  lone {inside} {qq} j rule =
+  lone : (rule : NameMap → Sexp → Sexp) (next : Quasi) (j : Tail h u x) → ((m : NameMap) → rule m (SC l h (SC (j .k) (j .y) (j .z))) ≡ substitution next m (j .y))
+      → Lone rule next s (SC l h u) x
+  lone rule next j makes =
       let P : Sexp → Type 0 = λ v. SexpFields (SC l h v) in
       let Q : Sexp → Type 0 = λ v. At s 0 (sexp-bytes (SC l h v)) in
       let i = element l h (j .k) (j .y) (j .z) (subst P (j .is) fine) (subst Q (j .is) a) in
@@ -173,62 +175,62 @@ module _ {s : Bytes} {x : ℕ} (l : Loc) (h u : Sexp) (fine : SexpFields (SC l h
         x = j .y;
         fields = i .fields;
         there = at-place x (sym (j .place)) (i .there);
-        moved = omega (arith, j .place);
         within = omega (arith, j .place, i .within, q);
-        rule = λ m. ap (λ (v : Sexp). substitution inside qq m (SC l h v)) (j .is) ∙ rule m;
+        deeper = omega (arith, cons-deeper l h u .1, ap cons-depth (j .is), cons-deeper (j .k) (j .y) (j .z) .0);
+        makes = λ m. ap (λ (v : Sexp). rule m (SC l h v)) (j .is) ∙ makes m;
       }
 
 -- the plans inside `qq`
-module _ {s : Bytes} {qq : Bool} where
-  pub plans-on : Heads s "unquote" false → PlansPair true qq s Parts
+module _ {s : Bytes} where
+  pub plans-on : Heads s "unquote" false → PlansPair (rename-in-qq true) s Parts
   plans-on x =
-      record { pairs = λ l h u fine a. goes-on refl record { l = l; h = h; u = u; is = refl; rule = λ m. qq-on qq m l h u (x l h u fine a) } }
+      record { pairs = λ l h u fine a. goes-on refl record { l = l; h = h; u = u; is = refl; makes = λ m. qq-on true m l h u (x l h u fine a) } }
 
   module _ {n : ℕ} (x : Heads s "unquote" true) (o : Singles s n) where
-    pub plans-unquote-none : n ≡ 0 → PlansPair true qq s Parts
+    pub plans-unquote-none : n ≡ 0 → PlansPair (rename-in-qq true) s Parts
     plans-unquote-none e =
         record {
           pairs = λ l h u fine a.
-              goes-on refl record { l = l; h = h; u = u; is = refl; rule = λ m. qq-none qq m l h u (x l h u fine a) (no-tail l h u fine a o e) };
+              goes-on refl record { l = l; h = h; u = u; is = refl; makes = λ m. qq-none true m l h u (x l h u fine a) (no-tail l h u fine a o e) };
         }
 
-    pub plans-unquote : {e : ℕ} → (n ≡ 0 → ⊥) → Measures s e → PlansPair true qq s (Alone n e)
+    pub plans-unquote : {e : ℕ} → (n ≡ 0 → ⊥) → Skips fields-part s e → PlansPair (rename-in-qq true) s (Alone Outside n e)
     plans-unquote d size =
         record {
           pairs = λ l h u fine a.
               let j = tail l h u fine a o d in
-              goes-alone n (ap (Alone n) (size .measures (SC l h u) fine a))
-              (lone l h u fine a j (λ m. qq-one qq m l h (j .k) (j .y) (j .z) (x l h u fine a) (j .ends)));
+              goes-alone Outside n (ap (Alone Outside n) (size .skips (SC l h u) fine a))
+              (lone l h u fine a (rename-in-qq true) Outside j (λ m. qq-one true m l h (j .k) (j .y) (j .z) (x l h u fine a) (j .ends)));
         }
 
 -- the plans outside
-module _ {s : Bytes} {qq : Bool} where
-  pub plans-q : {e : ℕ} → Heads s "q" true → Measures s e → PlansPair false qq s (Kept e)
-  plans-q x size = record { pairs = λ l h u fine a. keeps (ap Kept (size .measures (SC l h u) fine a)) (λ m. cons-q qq m l h u (x l h u fine a)) }
+module _ (qq : Bool) {s : Bytes} where
+  pub plans-q : {e : ℕ} → Heads s "q" true → Skips fields-part s e → PlansPair (rename-in-cons qq) s (Kept e)
+  plans-q x size = record { pairs = λ l h u fine a. keeps (ap Kept (size .skips (SC l h u) fine a)) (λ m. cons-q qq m l h u (x l h u fine a)) }
 
-  pub plans-go-on : Heads s "q" false → Heads s "quote" false → Looks s qq false → PlansPair false qq s Parts
+  pub plans-go-on : Heads s "q" false → Heads s "quote" false → Looks s qq false → PlansPair (rename-in-cons qq) s Parts
   plans-go-on x y z =
       record {
         pairs = λ l h u fine a.
-            goes-on refl record { l = l; h = h; u = u; is = refl; rule = λ m. cons-on qq m l h u (x l h u fine a) (y l h u fine a) (z l h u fine a) };
+            goes-on refl record { l = l; h = h; u = u; is = refl; makes = λ m. cons-on qq m l h u (x l h u fine a) (y l h u fine a) (z l h u fine a) };
       }
 
-  module _ {n e : ℕ} (x : Heads s "q" false) (o : Singles s n) (size : Measures s e) where
+  module _ {n e : ℕ} (x : Heads s "q" false) (o : Singles s n) (size : Skips fields-part s e) where
     module _ (y : Heads s "quote" true) where
-      pub plans-quote-none : n ≡ 0 → PlansPair false qq s (Kept e)
+      pub plans-quote-none : n ≡ 0 → PlansPair (rename-in-cons qq) s (Kept e)
       plans-quote-none d =
           record {
             pairs = λ l h u fine a.
-                keeps (ap Kept (size .measures (SC l h u) fine a))
+                keeps (ap Kept (size .skips (SC l h u) fine a))
                 (λ m. cons-quote qq m l h u (x l h u fine a) (y l h u fine a) ∙ requote-none l h u (no-tail l h u fine a o d));
           }
 
-      pub plans-quote : (n ≡ 0 → ⊥) → PlansPair false qq s (Requoted n e)
+      pub plans-quote : (n ≡ 0 → ⊥) → PlansPair (rename-in-cons qq) s (Requoted n e)
       plans-quote d =
           record {
             pairs = λ l h u fine a.
                 let j = tail l h u fine a o d in
-                quotes n (ap (Requoted n) (size .measures (SC l h u) fine a))
+                quotes n (ap (Requoted n) (size .skips (SC l h u) fine a))
                 record {
                   l = l;
                   h = h;
@@ -237,24 +239,26 @@ module _ {s : Bytes} {qq : Bool} where
                   z = j .z;
                   is = ap (SC l h) (j .is);
                   place = j .place;
-                  rule = λ m. cons-quote qq m l h u (x l h u fine a) (y l h u fine a) ∙ ap (requote l h) (j .is) ∙ requote-one l h (j .k) (j .y) (j .z) (j .ends);
+                  makes = λ m. cons-quote qq m l h u (x l h u fine a) (y l h u fine a) ∙ ap (requote l h) (j .is) ∙ requote-one l h (j .k) (j .y) (j .z) (j .ends);
                 };
           }
 
-    module _ (y : Heads s "quote" false) (z : Looks s qq true) where
-      pub plans-qq-none : n ≡ 0 → PlansPair false qq s (Kept e)
-      plans-qq-none d =
+    module _ (y : Heads s "quote" false) where
+      pub plans-qq-none : Looks s qq true → n ≡ 0 → PlansPair (rename-in-cons qq) s (Kept e)
+      plans-qq-none z d =
           record {
             pairs = λ l h u fine a.
-                keeps (ap Kept (size .measures (SC l h u) fine a))
+                keeps (ap Kept (size .skips (SC l h u) fine a))
                 (λ m. cons-qq-none qq m l h u (x l h u fine a) (y l h u fine a) (z l h u fine a) (no-tail l h u fine a o d));
           }
 
-      pub plans-qq : (n ≡ 0 → ⊥) → PlansPair false qq s (Alone n e)
-      plans-qq d =
+      pub plans-qq : Heads s "qq" true → qq ≡ true → (n ≡ 0 → ⊥) → PlansPair (rename-in-cons qq) s (Alone Inside n e)
+      plans-qq z is d =
+          subst (λ (b : Bool). PlansPair (rename-in-cons b) s (Alone Inside n e)) (sym is)
           record {
             pairs = λ l h u fine a.
                 let j = tail l h u fine a o d in
-                goes-alone n (ap (Alone n) (size .measures (SC l h u) fine a))
-                (lone l h u fine a j (λ m. cons-qq-one qq m l h (j .k) (j .y) (j .z) (x l h u fine a) (y l h u fine a) (z l h u fine a) (j .ends)));
+                goes-alone Inside n (ap (Alone Inside n) (size .skips (SC l h u) fine a))
+                (lone l h u fine a (rename-in-cons true) Inside j
+                (λ m. cons-qq-one true m l h (j .k) (j .y) (j .z) (x l h u fine a) (y l h u fine a) (looks {qq = true} z refl l h u fine a) (j .ends)));
           }

@@ -1,34 +1,38 @@
--- Drawing names for an S record, by what its mark and its view say. Assumes nothing.
+-- Drawing names for an S record, by what its view says. Assumes nothing.
 use mathlib.Core.Path.{_≡_, refl, sym, ap, subst, _∙_}
-use mathlib.Core.List.{[]}
 use native.Mathlib.Omega.{arith}
 use Prim.Native.Nat.{ℕ, _+_, _-_, _*_, _≤_, _<_}
-use lib.ListN.{length, take, drop, length-drop}
+use lib.ListN.{length, length-drop}
 use Rattle.names.specs.Maps.{NameMap, map-bytes}
 use Rattle.names.specs.Names.{Bytes}
-use Rattle.names.specs.Segments.{At}
+use Rattle.names.specs.declared.Refusal.{Refusal}
+use Rattle.names.specs.Segments.{At, SameOutside}
 use Rattle.names.proofs.Frames.{at-below, same-wider}
 use Rattle.names.proofs.Parts.{into, part, back, part-length, back-length, at-back, same-back}
 use Rattle.names.proofs.Places.{at-place, at-end, at-whole, at-rest}
-use Rattle.records.specs.Records.{Loc, Sexp, SN, SC, SI, SQ, SA, sexp-bytes}
-use Rattle.records.specs.Scan.{mark-index, sexp-marks}
-use Rattle.records.specs.Valid.{SexpFields}
-use Rattle.records.specs.Views.{SexpAt, SeesSexp}
+use Rattle.records.specs.Answer.{Outcome, gives, refuses}
+use Rattle.records.specs.Parts.{Skips, fields-part}
+use Rattle.records.specs.Records.{Loc, Sexp, SC, SA, sexp-bytes}
+use Rattle.records.specs.Valid.{SexpFields, cons-depth}
+use Rattle.records.specs.Views.{SexpAt, nil-at, pair-at, integer-at, text-at, atom-at, SeesSexp}
+use Rattle.records.specs.declared.NameView.{NameView}
 use Rattle.records.specs.declared.SexpView.{SexpView}
-use Rattle.records.proofs.AnySexp.{index-of, sexp-index}
-use Rattle.records.proofs.CountLaws.{SexpOf, sexp-by-mark}
+use Rattle.records.specs.declared.SexpView.the-variants.{Pair, Atom}
 use Rattle.records.proofs.Views.{first-of, rest-of}
-use Rattle.walk.specs.Arena.{MapAt}
+use Rattle.walk.specs.Arena.{MapAt, outcome}
 use Rattle.walk.specs.Invent.{invent-new-names-sexp}
-use Rattle.walk.specs.Inventing.{map-growth, Roomy, NameRoom, Grown, Draws, drew, too-long, InventsAtom, InventsSexp}
-use Rattle.walk.specs.Steps.{Out, done, refused, ret}
+use Rattle.walk.specs.Inventing.{map-growth, atom-size, Roomy, NameRoom, growth, Grown, Draws, InventsAtom, InventsFrom, InventsSexp}
+use Rattle.walk.specs.Steps.{ret}
+use Rattle.walk.specs.declared.Growth.{Growth}
 use Rattle.walk.specs.declared.Invented.{Invented}
+use Rattle.walk.specs.declared.Invented.the-variants.{Drawn, Refused}
+use Rattle.walk.proofs.InventLaws.{grown-none, grown-then, grown-stop}
 use Rattle.walk.proofs.MapLaws.{map-of-part}
-use Rattle.walk.proofs.Steps.{runs-bind, runs-bind-refused}
-use Rattle.walk.proofs.Views.{Atom, atom}
+use Rattle.walk.proofs.StepLaws.{outcome-then, outcome-stop}
+use Rattle.walk.proofs.Views.{NoPair, NoAtom, AtomAt, atom}
 
 -- an SC whose head stands at start
-pub record Pair (old : Bytes) (start : ℕ) (t : Sexp) : Type 0 where
+pub record PairAt (old : Bytes) (start : ℕ) (t : Sexp) : Type 0 where
   pub loc : Loc
   pub head : Sexp
   pub tail : Sexp
@@ -40,178 +44,181 @@ pub record Pair (old : Bytes) (start : ℕ) (t : Sexp) : Type 0 where
   pub whole : length (sexp-bytes t) ≡ start + length (sexp-bytes head) + length (sexp-bytes tail)
   pub moved : 0 < start
 
+pub as-pair : {old : Bytes} {start : ℕ} → SeesSexp old (Pair start) → (t : Sexp) → SexpFields t → At old 0 (sexp-bytes t) → PairAt old start t
+unfolding SexpFields
+as-pair {old} {start} x t f a = go f (x .sees t f a)
+  where
+    go : {t : Sexp} → SexpFields t → SexpAt old (Pair start) t → PairAt old start t
+    go f (pair-at {l = l} {h = h} {t = u} k e) = record {
+      loc = l;
+      head = h;
+      tail = u;
+      is = refl;
+      head-fields = f .1;
+      tail-fields = f .2;
+      head-at = first-of k;
+      tail-at = first-of (rest-of k);
+      whole = e;
+      moved = x .places .0;
+    }
+
 -- an SN, SI or SQ
-pub record Other (end : ℕ) (t : Sexp) : Type 0 where
-  pub keeps : (m : NameMap) (c x : ℕ) → invent-new-names-sexp m t c x ≡ done [] m c x
-  pub whole : length (sexp-bytes t) ≡ end
-
--- what mark and view say of the record
-module _ {old : Bytes} {len c k : ℕ} {v : SexpView} (see : SeesSexp old v) (mark : k ≡ mark-index (take 2 (drop 0 old)) sexp-marks) where
-  pub as-pair : k ≡ 1 → (t : Sexp) → Roomy t old 0 len c → Pair old (v .start) t
-  unfolding SexpOf SexpAt SexpFields
-  as-pair q t r =
-      sexp-by-mark {k = 1} (λ u. SexpFields u → SexpAt old v u → Pair old (v .start) u) (sym q ∙ mark) go t (r .there) (r .fields)
-      (see .sees t (r .fields) (r .there))
-    where
-      go : (l : Loc) (h u : Sexp) → SexpFields (SC l h u) → SexpAt old v (SC l h u) → Pair old (v .start) (SC l h u)
-      go l h u f w = record {
-        loc = l;
-        head = h;
-        tail = u;
-        is = refl;
-        head-fields = f .1;
-        tail-fields = f .2;
-        head-at = first-of (w .1);
-        tail-at = first-of (rest-of (w .1));
-        whole = w .2;
-        moved = see .moved (w .0);
-      }
-
-  pub as-atom : k ≡ 4 → (t : Sexp) → Roomy t old 0 len c → Atom old v t
-  as-atom q t r = atom (sym q ∙ mark) see t (r .fields) (r .there)
-
-  pub as-other : (k ≡ 1 → ⊥) → (k ≡ 4 → ⊥) → (t : Sexp) → Roomy t old 0 len c → Other (v .end) t
-  unfolding SexpAt invent-new-names-sexp ret
-  as-other p q t r = go t (see .sees t (r .fields) (r .there)) (mark ∙ index-of t (r .there))
-    where
-      go : (t : Sexp) → SexpAt old v t → k ≡ sexp-index t → Other (v .end) t
-      go (SN l) w e = record { keeps = λ m c x. refl; whole = sym (w .1) }
-      go (SC l h t) w e = absurd (p e)
-      go (SI l b) w e = record { keeps = λ m c x. refl; whole = sym (w .whole) }
-      go (SQ l b n) w e = record { keeps = λ m c x. refl; whole = sym (w .whole) }
-      go (SA l n) w e = absurd (q e)
+no-draw : {s : Bytes} {v : SexpView} {t : Sexp} → NoPair v → NoAtom v → SexpAt s v t → (m : NameMap) (c x : ℕ) → outcome (invent-new-names-sexp m t c x) ≡ gives m c
+unfolding invent-new-names-sexp ret outcome
+no-draw p q (nil-at e) m c x = refl
+no-draw p q (pair-at {p = at} k e) m c x = absurd (p at refl)
+no-draw p q (integer-at k) m c x = refl
+no-draw p q (text-at k) m c x = refl
+no-draw p q (atom-at {v = n} k) m c x = absurd (q n refl)
 
 -- the room of an atom is its name's, and that of an SC its head's
 module _ {old : Bytes} {len c : ℕ} {t : Sexp} (r : Roomy t old 0 len c) where
-  pub atom-room : {v : SexpView} → Atom old v t → NameRoom old (v .start) (v .end) len c
+  pub atom-room : {v : NameView} → AtomAt old v t → NameRoom old (v .start) (v .end) len c
   atom-room a =
-      let e = a .ends in
+      let e = a .name .ends in
       record {
         forward = omega arith;
         short = omega (arith, a .valid);
-        fits = omega (arith, a .own-size, a .whole, r .fits);
+        fits = omega (arith, a .own-size, a .name .past, r .fits);
         counts = omega (arith, r .counts, a .own-size);
       }
 
-  pub head-room : {start : ℕ} (p : Pair old start t) → Roomy (p .head) old start len c
+  pub head-room : {start : ℕ} (p : PairAt old start t) → Roomy (p .head) old start len c
   head-room p =
       let w = p .whole in
       let v = p .moved in
       record { fields = p .head-fields; there = p .head-at; fits = omega (arith, r .fits); counts = omega (arith, r .counts) }
 
--- r answers for t from the map m and the counter c; the next record stands at e
-abbrev Answers : NameMap → Sexp → ℕ → Bytes → ℕ → Invented → Type 0
-Answers m t c mem e r = Draws (invent-new-names-sexp m t c) (λ m′. m′) mem e r
+  -- one level down
+  pub pair-deep : {start depth : ℕ} (p : PairAt old start t) → cons-depth t ≤ depth → (0 < depth) × (cons-depth (p .head) ≤ depth - 1) × (cons-depth (p .tail) ≤ depth - 1)
+  unfolding cons-depth
+  pair-deep p le = let e = ap cons-depth (p .is) in (omega arith, omega arith, omega arith)
 
--- the same answer for what runs alike
-draws-as : {A : Type 0} {o o′ : ℕ → Out A} {f : A → NameMap} {mem : Bytes} {e e′ : ℕ} {r : Invented} → ((x : ℕ) → o′ x ≡ o x) → e ≡ e′
-    → Draws o f mem e r → Draws o′ f mem e′ r
-draws-as h q (drew k g z e y) = drew k (λ x. h x ∙ g x) z (e ∙ q) y
-draws-as h q (too-long g z) = too-long (λ x. h x ∙ g x) z
+-- r answers for t from the map m and the counter c; the next record stands at e
+abbrev Answers : NameMap → Sexp → Bytes → ℕ → ℕ → ℕ → ℕ → Invented → Type 0
+Answers m t mem len c size e r = Draws (invent-new-names-sexp m t c) (λ m′. m′) mem len c size e r
 
 -- an atom, and what draws nothing
-pub invents-atom : {old new : Bytes} {len c : ℕ} {v : SexpView} {r : Invented} → ((t : Sexp) → Roomy t old 0 len c → Atom old v t)
-    → InventsAtom old new (v .start) (v .end) len c r → InventsSexp old new 0 len c r
-invents-atom {c = c} sa h t room m w =
-    let a = sa t room in
-    let d = h (a .l) (a .n) (record { there = a .bytes; ends = a .ends }) m w in
-    record {
-      at-most = omega (arith, d .at-most, a .own-size);
-      counted = omega (arith, d .counted, a .own-size);
-      answer = draws-as (λ x. ap (λ (s : Sexp). invent-new-names-sexp m s c x) (a .is)) (omega (arith, a .whole)) (d .answer);
-    }
-
-pub invents-other : {old : Bytes} {end len c : ℕ} → ((t : Sexp) → Roomy t old 0 len c → Other end t)
-    → InventsSexp old old 0 len c (record { number = 0; len = len; counter = c; end = end })
-invents-other {c = c} other t room m w =
-    let o = other t room in
-    record { at-most = omega arith; counted = omega arith; answer = drew m (λ x. o .keeps m c x) refl (omega (arith, o .whole)) w }
-
--- an SC by its parts
-module _ (m : NameMap) {old : Bytes} {start : ℕ} {t : Sexp} (p : Pair old start t) (c x : ℕ) where
-  pair-runs : {m₁ : NameMap} {c₁ : ℕ} → invent-new-names-sexp m (p .head) c x ≡ done [] m₁ c₁ x → invent-new-names-sexp m t c x ≡ invent-new-names-sexp m₁ (p .tail) c₁ x
-  unfolding invent-new-names-sexp
-  pair-runs e =
-      ap (λ (s : Sexp). invent-new-names-sexp m s c x) (p .is)
-      ∙ runs-bind (λ m′. invent-new-names-sexp m′ (p .tail)) (record { answers = e }) (record { answers = refl }) .answers
-
-  pair-refused : {n k : ℕ} → invent-new-names-sexp m (p .head) c x ≡ refused [] n k → invent-new-names-sexp m t c x ≡ refused [] n k
-  unfolding invent-new-names-sexp
-  pair-refused e =
-      ap (λ (s : Sexp). invent-new-names-sexp m s c x) (p .is)
-      ∙ runs-bind-refused (λ m′. invent-new-names-sexp m′ (p .tail)) (record { answers = e }) .answers
-
--- after the head of an SC: the map, and the tail with its room
-pub record Next {old : Bytes} {start : ℕ} {t : Sexp} (p : Pair old start t) (mid : Bytes) (len c : ℕ) (m : NameMap) (r : Invented) : Type 0 where
-  pub map : NameMap
-  pub runs : (x : ℕ) → invent-new-names-sexp m (p .head) c x ≡ done [] map (r .counter) x
-  pub map-at : MapAt mid (r .len) map
-  pub ends : r .end ≡ start + length (sexp-bytes (p .head))
-  pub at-most : r .len ≤ len + map-growth * length (sexp-bytes (p .head))
-  pub counted : r .counter ≤ c + length (sexp-bytes (p .head))
-  pub room : Roomy (p .tail) mid (r .end) (r .len) (r .counter)
-
--- r, where the next record stands at e
-abbrev ending : Invented → ℕ → Invented
-ending r e = record { number = r .number; len = r .len; counter = r .counter; end = e }
-
-module _ {old mid : Bytes} {start len c : ℕ} {r : Invented} (g : Grown old mid len r) (h : InventsSexp old mid start len c r) where
-  pub next : {t : Sexp} → r .number ≡ 0 → Roomy t old 0 len c → (p : Pair old start t) → (m : NameMap) → MapAt old len m → Next p mid len c m r
-  next {t} z room p m w = let d = h (p .head) (head-room room p) m w in go (d .at-most) (d .counted) (d .answer)
+module _ {old : Bytes} {len c : ℕ} where
+  pub invents-atom : {new : Bytes} {v : NameView} {r : Invented} → SeesSexp old (Atom v) → Grown old new len 0 r → InventsAtom old new (v .start) (v .end) len c r → InventsSexp old new 0 len c r
+  invents-atom {new} {v} {r} sa g h t room m w =
+      let a = atom sa t (room .fields) (room .there) in
+      go a r g (h (a .l) (a .n) (record { there = a .name .bytes; ends = a .name .ends }) m w)
     where
-      go : r .len ≤ len + map-growth * length (sexp-bytes (p .head)) → r .counter ≤ c + length (sexp-bytes (p .head))
-          → Answers m (p .head) c mid (start + length (sexp-bytes (p .head))) r → Next p mid len c m r
-      go most count (drew k f n e y) =
-          let whole = p .whole in
-          let moved = p .moved in
+      go : (a : AtomAt old v t) (r : Invented) → Grown old new len 0 r → Answers m (SA (a .l) (a .n)) new len c (atom-size (length (a .n))) (v .end) r → InventsFrom old new 0 len c t m r
+      go a (Drawn k) g d =
+          let size = a .own-size in
           record {
-            map = k;
-            runs = f;
-            map-at = y;
-            ends = e;
-            at-most = most;
-            counted = count;
-            room = record {
-              fields = p .tail-fields;
-              there = at-place (r .end) (sym e) (at-below (g .frame) (p .tail-at) (omega (arith, room .fits)));
-              fits = omega (arith, room .fits, g .frame .size);
-              counts = omega (arith, room .counts);
+            grown = g;
+            draws = record {
+              value = d .value;
+              runs = λ x. ap (λ (s : Sexp). outcome (invent-new-names-sexp m s c x)) (a .is) ∙ d .runs x;
+              map-at = d .map-at;
+              next = omega (arith, d .next, a .name .past);
+              at-most = omega (arith, d .at-most);
+              counted = omega (arith, d .counted);
             };
           }
-      go most count (too-long f n) = absurd (omega arith)
+      go a (Refused k) g d = record {
+        grown = same-wider (length old - (len + map-growth * length (sexp-bytes t))) (length old - len) (omega arith) (omega arith) g;
+        draws = record { runs = λ x. ap (λ (s : Sexp). outcome (invent-new-names-sexp m s c x)) (a .is) ∙ d .runs x; is = d .is };
+      }
 
-  module _ (pair : (t : Sexp) → Roomy t old 0 len c → Pair old start t) where
-    -- the head is refused
-    pub invents-refused : (e : ℕ) → (r .number ≡ 0 → ⊥) → InventsSexp old mid 0 len c (ending r e)
-    invents-refused e bad t room m w =
+  pub invents-other : {v : SexpView} {end : ℕ} → NoPair v → NoAtom v → SeesSexp old v → Skips fields-part old end → InventsSexp old old 0 len c (Drawn (growth len c end))
+  invents-other p q see size t room m w = record {
+    grown = grown-none len old (size .within);
+    draws = record {
+      value = m;
+      runs = no-draw p q (see .sees t (room .fields) (room .there)) m c;
+      map-at = w;
+      next = omega (arith, size .skips t (room .fields) (room .there));
+      at-most = omega arith;
+      counted = omega arith;
+    };
+  }
+
+-- an SC by its parts
+module _ (m : NameMap) {old : Bytes} {start : ℕ} {t : Sexp} (p : PairAt old start t) (c x : ℕ) where
+  pair-runs : {m₁ : NameMap} {c₁ : ℕ} {o : Outcome NameMap} → outcome (invent-new-names-sexp m (p .head) c x) ≡ gives m₁ c₁ → ((y : ℕ) → outcome (invent-new-names-sexp m₁ (p .tail) c₁ y) ≡ o)
+      → outcome (invent-new-names-sexp m t c x) ≡ o
+  unfolding invent-new-names-sexp
+  pair-runs e k =
+      ap (λ (s : Sexp). outcome (invent-new-names-sexp m s c x)) (p .is)
+      ∙ outcome-then (invent-new-names-sexp m (p .head)) (λ m′. invent-new-names-sexp m′ (p .tail)) c x e k
+
+  pair-stops : {r : Refusal} → outcome (invent-new-names-sexp m (p .head) c x) ≡ refuses r → outcome (invent-new-names-sexp m t c x) ≡ refuses r
+  unfolding invent-new-names-sexp
+  pair-stops e =
+      ap (λ (s : Sexp). outcome (invent-new-names-sexp m s c x)) (p .is)
+      ∙ outcome-stop (invent-new-names-sexp m (p .head)) (λ m′. invent-new-names-sexp m′ (p .tail)) c x e
+
+-- the head of an SC is refused
+pub invents-refused : {old mid : Bytes} {start len c : ℕ} {r : Refusal} → ((t : Sexp) → Roomy t old 0 len c → PairAt old start t) → InventsSexp old mid start len c (Refused r)
+    → InventsSexp old mid 0 len c (Refused r)
+invents-refused {old} {len = len} {c} pair h t room m w =
+    let p = pair t room in
+    let d = h (p .head) (head-room room p) m w in
+    let whole = p .whole in
+    record {
+      grown = same-wider (length old - (len + map-growth * length (sexp-bytes t))) (length old - len) (omega arith) (omega arith) (d .grown);
+      draws = record { runs = λ x. pair-stops m p c x (d .draws .runs x); is = d .draws .is };
+    }
+
+-- after the head of an SC: the tail with its room
+module _ {old mid : Bytes} {start len c : ℕ} {g : Growth} (h : InventsSexp old mid start len c (Drawn g)) where
+  pub tail-room : {t : Sexp} → Roomy t old 0 len c → (p : PairAt old start t) → (m : NameMap) → MapAt old len m → Roomy (p .tail) mid (g .end) (g .len) (g .counter)
+  tail-room {t} room p m w =
+      let d = h (p .head) (head-room room p) m w in
+      let whole = p .whole in
+      let moved = p .moved in
+      let e = d .draws .next in
+      let most = d .draws .at-most in
+      record {
+        fields = p .tail-fields;
+        there = at-place (g .end) (sym e) (at-below (d .grown .frame) (p .tail-at) (omega (arith, room .fits)));
+        fits = omega (arith, room .fits, d .grown .frame .size);
+        counts = omega (arith, room .counts, d .draws .counted);
+      }
+
+  module _ (pair : (t : Sexp) → Roomy t old 0 len c → PairAt old start t) {new : Bytes} where
+    -- the tail is refused
+    pub invents-stopped : {r : Refusal} → InventsSexp mid new (g .end) (g .len) (g .counter) (Refused r) → InventsSexp old new 0 len c (Refused r)
+    invents-stopped k t room m w =
         let p = pair t room in
         let d = h (p .head) (head-room room p) m w in
+        let u = k (p .tail) (tail-room room p m w) (d .draws .value) (d .draws .map-at) in
         let whole = p .whole in
-        let moved = p .moved in
-        record { at-most = omega (arith, d .at-most); counted = omega (arith, d .counted); answer = go p (d .answer) }
-      where
-        go : (p : Pair old start t) → Answers m (p .head) c mid (start + length (sexp-bytes (p .head))) r
-            → Answers m t c mid (0 + length (sexp-bytes t)) (ending r e)
-        go p (drew k f z e y) = absurd (bad z)
-        go p (too-long f z) = too-long (λ x. pair-refused m p c x (f x)) z
+        record {
+          grown = grown-stop (map-growth * length (sexp-bytes (p .tail))) (map-growth * length (sexp-bytes t)) (d .grown) (u .grown) (omega (arith, d .draws .at-most));
+          draws = record { runs = λ x. pair-runs m p c x (d .draws .runs x) (u .draws .runs); is = u .draws .is };
+        }
 
     -- head and tail
-    pub invents-pair : {new : Bytes} {s : Invented} → r .number ≡ 0 → InventsSexp mid new (r .end) (r .len) (r .counter) s → InventsSexp old new 0 len c s
-    invents-pair z k t room m w =
+    pub invents-pair : {u : Growth} → InventsSexp mid new (g .end) (g .len) (g .counter) (Drawn u) → InventsSexp old new 0 len c (Drawn u)
+    invents-pair k t room m w =
         let p = pair t room in
-        let n = next z room p m w in
-        let d = k (p .tail) (n .room) (n .map) (n .map-at) in
+        let d = h (p .head) (head-room room p) m w in
+        let u = k (p .tail) (tail-room room p m w) (d .draws .value) (d .draws .map-at) in
         let whole = p .whole in
-        let moved = p .moved in
         record {
-          at-most = omega (arith, d .at-most, n .at-most);
-          counted = omega (arith, d .counted, n .counted);
-          answer = draws-as (λ x. pair-runs m p c x (n .runs x)) (omega (arith, n .ends)) (d .answer);
+          grown = grown-then (d .grown) (u .grown);
+          draws = record {
+            value = u .draws .value;
+            runs = λ x. pair-runs m p c x (d .draws .runs x) (u .draws .runs);
+            map-at = u .draws .map-at;
+            next = omega (arith, u .draws .next, d .draws .next);
+            at-most = omega (arith, u .draws .at-most, d .draws .at-most);
+            counted = omega (arith, u .draws .counted, d .draws .counted);
+          };
         }
 
 -- a callee's answer on `&mut mem[a..]`, of the whole: the next record stands so much later
-abbrev pub shifted : ℕ → Invented → Invented
-shifted a r = ending r (a + r .end)
+abbrev pub shifted : ℕ → Growth → Growth
+shifted a g = growth (g .len) (g .counter) (a + g .end)
+
+abbrev pub moved : ℕ → Invented → Invented
+moved a (Drawn g) = Drawn (shifted a g)
+moved a (Refused r) = Refused r
 
 pub roomy-part : {t : Sexp} {mem : Bytes} {a len c : ℕ} → Roomy t mem a len c → Roomy t (part mem a (length mem - a)) 0 len c
 roomy-part {mem = mem} {a} r =
@@ -222,7 +229,7 @@ roomy-part {mem = mem} {a} r =
       counts = r .counts;
     }
 
-module _ (mem : Bytes) (a : ℕ) {y : Bytes} {len : ℕ} {r : Invented} (g : Grown (part mem a (length mem - a)) y len r) where
+module _ (mem : Bytes) (a : ℕ) (y : Bytes) where
   -- the rest of memory from a on, and memory when it came back
   abbrev rest : ℕ
   rest = length mem - a
@@ -230,51 +237,50 @@ module _ (mem : Bytes) (a : ℕ) {y : Bytes} {len : ℕ} {r : Invented} (g : Gro
   abbrev whole : Bytes
   whole = back mem a rest y
 
-  grown-part : (e : ℕ) → e ≤ length mem → a + r .len ≤ length mem → Grown mem whole len (ending r e)
-  grown-part e last le =
+  frame-back : {len k : ℕ} → a + k ≤ length mem → len ≤ k → SameOutside (part mem a rest) y (length (part mem a rest) - k) (length (part mem a rest) - len) → SameOutside mem whole (length mem - k) (length mem - len)
+  frame-back {len} {k} le longer f =
       let l = part-length mem a rest (omega arith) in
-      let changed = same-back mem a rest (omega arith) (g .frame) (omega arith) (omega arith) in
-      record {
-        longer = g .longer;
-        within = last;
-        frame = same-wider (length mem - r .len) (length mem - len) (omega arith) (omega (arith, g .longer)) changed;
-      }
+      same-wider (length mem - k) (length mem - len) (omega arith) (omega arith) (same-back mem a rest (omega arith) f (omega arith) (omega arith))
 
-  map-back : {m : NameMap} → a ≤ length mem → MapAt y (r .len) m → MapAt whole (r .len) m
-  map-back {m} le w =
+  map-back : {k : ℕ} {m : NameMap} → a ≤ length mem → length y ≡ length (part mem a rest) → MapAt y k m → MapAt whole k m
+  map-back {k} {m} le s w =
       let l = part-length mem a rest (omega arith) in
-      let s = g .frame .size in
       let b = back-length mem a rest (omega arith) y (s ∙ l) in
-      let at = length y - r .len in
+      let at = length y - k in
       let here = at-place at (omega arith) (at-rest at (at-whole y) (omega arith)) in
       let there = at-back mem a rest (omega arith) y (s ∙ l) (subst (At y at) (w .there) here) in
-      let n : length (map-bytes m) ≡ r .len = omega (arith, ap length (w .there), length-drop at y, w .within) in
+      let n : length (map-bytes m) ≡ k = omega (arith, ap length (w .there), length-drop at y, w .within) in
       record {
         within = omega (arith, w .within);
-        there = at-end (at-place (length whole - r .len) (omega (arith, w .within)) there) (omega (arith, w .within));
+        there = at-end (at-place (length whole - k) (omega (arith, w .within)) there) (omega (arith, w .within));
+        limited = w .limited;
       }
 
-  invents-part : {c : ℕ} → InventsSexp (part mem a rest) y 0 len c r → InventsSexp mem whole a len c (shifted a r)
-  invents-part {c} h t room m w =
-      let d = h t (roomy-part room) m (map-of-part a (omega (arith, room .fits)) w) in
-      record { at-most = d .at-most; counted = d .counted; answer = go (d .answer) }
+  pub invents-part : {len c : ℕ} (r : Invented) → InventsSexp (part mem a rest) y 0 len c r → InventsSexp mem whole a len c (moved a r)
+  invents-part {len} {c} r h t room m w = go r (h t (roomy-part room) m (map-of-part a (omega (arith, room .fits)) w))
     where
-      go : Answers m t c y (0 + length (sexp-bytes t)) r → Answers m t c whole (a + length (sexp-bytes t)) (shifted a r)
-      go (drew k f z e v) = drew k f z (omega (arith, e)) (map-back (omega (arith, room .fits)) v)
-      go (too-long f z) = too-long f z
+      fit : a + length (sexp-bytes t) + map-growth * length (sexp-bytes t) + len ≤ length mem
+      fit = room .fits
 
--- what was drawn from a record at a place
-pub record Drawn (mem y : Bytes) (a len c : ℕ) (r : Invented) : Type 0 where
-  pub within : a + r .end ≤ length mem
-  pub grown : (e : ℕ) → e ≤ length mem → Grown mem (back mem a (length mem - a) y) len (ending r e)
-  pub invents : InventsSexp mem (back mem a (length mem - a) y) a len c (shifted a r)
-
-pub drawn : {t : Sexp} {mem y : Bytes} {a len c : ℕ} {r : Invented} {m : NameMap} → Grown (part mem a (length mem - a)) y len r
-    → InventsSexp (part mem a (length mem - a)) y 0 len c r → Roomy t mem a len c → MapAt mem len m → Drawn mem y a len c r
-drawn {t} {mem} {a = a} {m = m} g h room w =
-    let d = h t (roomy-part room) m (map-of-part a (omega (arith, room .fits)) w) in
-    record {
-      within = omega (arith, g .within, part-length mem a (length mem - a) (omega (arith, room .fits)), room .fits);
-      grown = λ e le. grown-part mem a g e le (omega (arith, d .at-most, room .fits));
-      invents = invents-part mem a g h;
-    }
+      go : (r : Invented) → InventsFrom (part mem a rest) y 0 len c t m r → InventsFrom mem whole a len c t m (moved a r)
+      go (Drawn g) d =
+          let l = part-length mem a rest (omega arith) in
+          record {
+            grown = record {
+              longer = d .grown .longer;
+              within = omega (arith, d .grown .within);
+              frame = frame-back (omega (arith, d .draws .at-most)) (d .grown .longer) (d .grown .frame);
+            };
+            draws = record {
+              value = d .draws .value;
+              runs = d .draws .runs;
+              map-at = map-back (omega arith) (d .grown .frame .size) (d .draws .map-at);
+              next = omega (arith, d .draws .next);
+              at-most = d .draws .at-most;
+              counted = d .draws .counted;
+            };
+          }
+      go (Refused k) d = record {
+        grown = frame-back (omega arith) (omega arith) (d .grown);
+        draws = record { runs = d .draws .runs; is = d .draws .is };
+      }

@@ -7,23 +7,23 @@ use native.Mathlib.Omega.{arith}
 use Prim.Native.Nat.{ℕ, _+_, _-_}
 use lib.ListN.{length, take, drop, length-append, length-drop}
 use lib.Seq.{length-take-le, take-append-seam}
-use Rattle.names.specs.Maps.{NameMap, map-bytes}
+use Rattle.names.specs.Maps.{NameMap, map-bytes, Limited}
 use Rattle.names.specs.Names.{Bytes, ascii, same, name-field}
 use Rattle.names.proofs.Places.{take-drop}
 use Rattle.records.specs.Records.{Sexp, SN, SC, SI, SQ, SA}
 use Rattle.walk.specs.Arena.{MapAt}
 use Rattle.walk.specs.Invent.{draw, invent-new-names-sexp}
-use Rattle.walk.specs.Steps.{M, Out, done, refused, Visit, _>>=_, after, ret}
+use Rattle.walk.specs.Steps.{M, Out, Event, done, refused, _>>=_, after, ret}
 
 -- what a run gives, by a function of its value
 unfoldable pub on-value : {A B : Type 0} → (A → B) → Out A → Out B
 on-value f (done log a c x) = done log (f a) c x
-on-value f (refused log n p) = refused log n p
+on-value f (refused log r) = refused log r
 
-after-on-value : {A B : Type 0} (f : A → B) (log : List Visit) (o : Out A) → after log (on-value f o) ≡ on-value f (after log o)
+after-on-value : {A B : Type 0} (f : A → B) (log : List Event) (o : Out A) → after log (on-value f o) ≡ on-value f (after log o)
 unfolding after on-value
 after-on-value f log (done l a c x) = refl
-after-on-value f log (refused l n p) = refl
+after-on-value f log (refused l r) = refl
 
 module _ (k : NameMap) where
   abbrev onto : NameMap → NameMap
@@ -35,22 +35,22 @@ module _ (k : NameMap) where
   invent-onto m (SC l h t) c x = ap run (invent-onto m h c x) ∙ go (λ m′ c′ x′. invent-onto m′ t c′ x′) (invent-new-names-sexp m h c x)
     where
       run : Out NameMap → Out NameMap
-      run o = elim o as (λ _. Out NameMap) [ done log m′ c′ x′ ↦ after log (invent-new-names-sexp m′ t c′ x′) | refused log n p ↦ refused log n p ]
+      run o = elim o as (λ _. Out NameMap) [ done log m′ c′ x′ ↦ after log (invent-new-names-sexp m′ t c′ x′) | refused log r ↦ refused log r ]
 
       go : ((m : NameMap) (c x : ℕ) → invent-new-names-sexp (m ++ k) t c x ≡ on-value onto (invent-new-names-sexp m t c x)) → (o : Out NameMap)
           → run (on-value onto o) ≡ on-value onto (run o)
       go h (done log m′ c′ x′) = ap (after log) (h m′ c′ x′) ∙ after-on-value onto log (invent-new-names-sexp m′ t c′ x′)
-      go h (refused log n p) = refl
+      go h (refused log r) = refl
   invent-onto m (SI l v) c x = refl
   invent-onto m (SQ l q n) c x = refl
   invent-onto m (SA l n) c x = go (same n (ascii "@"))
     where
       drawn : NameMap → Out Bytes → Out NameMap
-      drawn m o = elim o as (λ _. Out NameMap) [ done log n′ c′ x′ ↦ after log (done [] ((n, n′) ∷ m) c′ x′) | refused log i p ↦ refused log i p ]
+      drawn m o = elim o as (λ _. Out NameMap) [ done log n′ c′ x′ ↦ after log (done [] ((n, n′) ∷ m) c′ x′) | refused log r ↦ refused log r ]
 
       draws : (o : Out Bytes) → drawn (onto m) o ≡ on-value onto (drawn m o)
       draws (done log n′ c′ x′) = after-on-value onto log (done [] ((n, n′) ∷ m) c′ x′)
-      draws (refused log i p) = refl
+      draws (refused log r) = refl
 
       by-name : NameMap → Bool → M NameMap
       by-name m b = elim b as (λ _. M NameMap) [ true ↦ ret m | false ↦ (draw n >>= λ n′. ret ((n, n′) ∷ m)) ]
@@ -68,6 +68,11 @@ joined-bytes ((n, n′) ∷ a) b =
     ∙ sym (append-assoc (name-field n) (name-field n′ ++ map-bytes a) (map-bytes b)
     ∙ ap (λ (r : Bytes). name-field n ++ r) (append-assoc (name-field n′) (map-bytes a) (map-bytes b)))
 
+newer-limited : (a b : NameMap) → Limited (a ++ b) → Limited a
+unfolding Limited
+newer-limited [] b l = tt
+newer-limited (e ∷ a) b l = (l .0, l .1, newer-limited a b (l .2))
+
 pub newer-map : {mem : Bytes} {len : ℕ} (a b : NameMap) → MapAt mem len (a ++ b) → MapAt (take (length mem - length (map-bytes b)) mem) (len - length (map-bytes b)) a
 newer-map {mem} {len} a b w =
     let na = length (map-bytes a) in
@@ -81,4 +86,5 @@ newer-map {mem} {len} a b w =
       within = omega (arith, w .within);
       there = ap (λ (i : ℕ). drop i (take (length mem - nb) mem)) p ∙ ap (λ (i : ℕ). drop (length mem - len) (take i mem)) q ∙ sym (take-drop (length mem - len) na mem)
           ∙ ap (take na) e ∙ take-append-seam (map-bytes a) (map-bytes b);
+      limited = newer-limited a b (w .limited);
     }

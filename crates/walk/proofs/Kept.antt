@@ -18,6 +18,7 @@ use Rattle.records.specs.Records.{Loc, Sexp, SN, SC, SI, SQ, SA, Kind, Parallel
 use Rattle.records.specs.Sexps.{nilp, loc-of, is-atom, only}
 use Rattle.records.specs.Valid.{ValidLoc, ValidName, ValidKeyword, ValidHint, ValidSexp, cons-depth, SexpFields, BodyFields, BodiesFields, TailFields, BindingFields, BindingsFields, HelperFields, HelpersFields, FormFields, lambda-depth, bodies-lambda-depth, tail-lambda-depth, binding-lambda-depth, bindings-lambda-depth, helper-lambda-depth, helpers-lambda-depth, form-lambda-depth, NoMod, BodiesNoMod, TailNoMod, BindingNoMod, BindingsNoMod, HelperNoMod, HelpersNoMod, FormNoMod}
 use Rattle.walk.specs.RenameInCons.{requote, rename-in-cons, rename-in-qq, only-in-cons, only-in-qq, rename-atom}
+use Rattle.walk.specs.Arena.{Held}
 use Rattle.walk.specs.Bodyforms.{desugar-sequential-let-bindings}
 use Rattle.walk.proofs.Views.{valid-loc-of}
 use Rattle.records.proofs.Exact.{bindings-counted}
@@ -37,11 +38,6 @@ valid-renamed (all-cons {a} {l} p ps) n h = go (valid-renamed ps n h) (same n (a
         → ValidName (elim (elim b as (λ _. Option Bytes) [ true ↦ some (a .1) | false ↦ lookup l n ]) [ none ↦ n | some v ↦ v ])
     go q true = p
     go q false = q
-
--- an S record of valid fields, with SC at most n deep
-pub record Held (n : ℕ) (s : Sexp) : Type 0 where
-  pub fields : SexpFields s
-  pub conses : cons-depth s ≤ n
 
 held-cond : {n : ℕ} {x y : Sexp} (b : Bool) → Held n x → Held n y → Held n (elim b [ true ↦ x | false ↦ y ])
 held-cond true p q = p

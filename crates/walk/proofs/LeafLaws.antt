@@ -1,39 +1,29 @@
 -- The B records that go no level down: which of them a rule keeps, and a BQ or BV by the map. Assumes nothing.
-use mathlib.Core.Path.{_≡_, refl, sym, subst, _∙_}
-use mathlib.Core.List.{flatten, append-nil}
+use mathlib.Core.Path.{_≡_, refl, sym, ap, subst}
+use mathlib.Core.List.{_++_, flatten, append-nil}
 use native.Mathlib.Omega.{arith}
 use Prim.Native.Nat.{ℕ, _+_, _-_, _≤_, _<_}
 use lib.ListN.{length, drop}
 use Rattle.names.specs.Maps.{NameMap}
 use Rattle.names.specs.Names.{Bytes, ascii}
 use Rattle.names.specs.Segments.{At, SameOutside, Filled}
+use Rattle.names.specs.declared.Refusal.{Refusal}
 use Rattle.names.proofs.Frames.{same-refl, same-then, at-below, copied-at}
-use Rattle.names.proofs.Parts.{part, back}
-use Rattle.records.specs.Answer.{Outcome, Gives, refused, Answers}
-use Rattle.records.specs.Records.{Loc, Sexp, Body, BL, BQ, BV, BC, BM, BF, Form, sexp-bytes, body-bytes, record-bytes}
-use Rattle.records.specs.Valid.{SexpFields, BodyFields, ValidBody}
-use Rattle.records.specs.declared.Family.the-variants.{Body as a-body}
+use Rattle.records.specs.Answer.{Outcome, Gives, refused}
+use Rattle.records.specs.Records.{mark-width, Loc, Sexp, Body, BL, BQ, BV, BC, BM, BF, Form, sexp-bytes, body-bytes, record-bytes}
+use Rattle.records.specs.Valid.{SexpFields, BodyFields}
 use Rattle.records.specs.declared.Step.{Step}
 use Rattle.records.specs.declared.Step.the-variants.{Done, Refused}
-use Rattle.records.specs.Parts.{Part, Skips, family-part}
-use Rattle.records.specs.Views.{mark-width}
-use Rattle.records.proofs.Places.{at-split}
-use Rattle.walk.specs.Arena.{MapAt, SexpAtStart, Kept, Substitutes, fitting, outcome}
-use Rattle.walk.specs.Bodyforms.{Rules, body-rules, log-assign, rename-args-bodyform, rename-in-bodyform}
-use Rattle.walk.specs.Leaves.{IsValue, IsKept, KeepsBody, RenamesValue}
+use Rattle.walk.specs.Arena.{MapAt, Asks, Substitutes, fitting, outcome}
+use Rattle.walk.specs.Bodyforms.{Rules, body-rules, log-assign, rename-args-bodyform, rename-in-quoted, rename-in-value, rename-in-bodyform}
+use Rattle.walk.specs.Leaves.{IsQuoted, IsValue, IsKept, ValidKind, InBody, WithMark, with-mark-bytes, ValidWithMark, RenamesWithMark}
 use Rattle.walk.specs.RenameInCons.{rename-atom}
-use Rattle.walk.specs.Steps.{ret, body-size, step}
-use Rattle.walk.proofs.Fits.{Headed, whole, head-at, rest-at, headed-refused, headed-done, read-wrote, fitting-long}
-use Rattle.walk.proofs.Pairs.{start-at, on-part}
+use Rattle.walk.specs.Steps.{ret, body-size, step, over-long}
+use Rattle.walk.specs.declared.Task.{Task}
+use Rattle.walk.proofs.Fits.{Headed, whole, head-at, rest-at, headed-refused, headed-done, read-wrote, fitting-long, same-bytes}
 use Rattle.walk.proofs.MapLaws.{map-after}
+use Rattle.walk.proofs.OnParts.{from, rejoin, asks-part, part-frame, part-gives}
 use Rattle.walk.proofs.StepLaws.{step-fits}
-
--- the length of the record at the start
-pub skipped : {p : Part} {s : Bytes} {n : ℕ} → Skips p s n → (t : p .0) → p .2 t → At s 0 (p .1 t) → n ≡ length (p .1 t)
-skipped x t v a = x .skips t _ v (at-split a)
-
-pub keeps-body : {old new : Bytes} {free n f c : ℕ} {r : Step} → Skips (family-part a-body) old n → Kept body-bytes old new free n f c r → KeepsBody old new free f c r
-keeps-body x k = record { frame = k .frame; says = λ t a b v. k .says t a (skipped x t v a) }
 
 -- a step that makes one record of another and holds nothing
 one-record : (F c x : ℕ) (b : Body) → outcome (step F body-size (ret b) c x) ≡ fitting body-bytes F c b
@@ -58,110 +48,185 @@ module _ (F : ℕ) (q : Rules) (c x : ℕ) where
     in-mod l f = one-record F c x (BM l f)
 
     -- and has the atom of a BQ and of a BV by the map
-    pub in-quote : (s : Sexp) → outcome (body-rules F q .in-bodyform m (BQ s) c x) ≡ fitting body-bytes F c (BQ (rename-atom m s))
-    unfolding body-rules rename-in-bodyform
-    in-quote s = one-record F c x (BQ (rename-atom m s))
+    pub in-quoted : (s : Sexp) → outcome (body-rules F q .in-bodyform m (BQ s) c x) ≡ fitting body-bytes F c (BQ (rename-atom m s))
+    unfolding body-rules rename-in-bodyform rename-in-quoted
+    in-quoted s = one-record F c x (BQ (rename-atom m s))
 
     pub in-value : (s : Sexp) → outcome (body-rules F q .in-bodyform m (BV s) c x) ≡ fitting body-bytes F c (BV (rename-atom m s))
-    unfolding body-rules rename-in-bodyform
+    unfolding body-rules rename-in-bodyform rename-in-value
     in-value s = one-record F c x (BV (rename-atom m s))
 
--- a mark, and an S record t that goes by the map
-pub record Value (b : Body) : Type 0 where
-  pub of : Sexp → Body
-  pub mark : Bytes
-  pub t : Sexp
-  pub fields : SexpFields t
-  pub parts : Headed sexp-bytes body-bytes mark mark-width t b
-  pub others : (u : Sexp) → Headed sexp-bytes body-bytes mark mark-width u (of u)
-  pub rule : (F : ℕ) (q : Rules) (c : ℕ) (m : NameMap) → outcome (body-rules F q .in-bodyform m b c 0) ≡ fitting body-bytes F c (of (rename-atom m t))
+-- b has the bytes of a mark and an S record, and In-body has the S record by the map
+record Value (b : Body) : Type 0 where
+  x : WithMark
+  valid : ValidWithMark x
+  of : Sexp → Body
+  bytes : with-mark-bytes x ≡ body-bytes b
+  others : (u : Sexp) → with-mark-bytes (x .0, u) ≡ body-bytes (of u)
+  rule : (F : ℕ) (q : Rules) (c : ℕ) (m : NameMap) → outcome (body-rules F q .in-bodyform m b c 0) ≡ fitting body-bytes F c (of (rename-atom m (x .1)))
 
-quote-parts : (s : Sexp) → Headed sexp-bytes body-bytes (ascii "BQ") mark-width s (BQ s)
+quoted-bytes : (s : Sexp) → ascii "BQ" ++ sexp-bytes s ≡ body-bytes (BQ s)
 unfolding body-bytes record-bytes flatten ascii
-quote-parts s = record { width = refl; bytes = simp append-nil }
+quoted-bytes s = simp append-nil
 
-value-parts : (s : Sexp) → Headed sexp-bytes body-bytes (ascii "BV") mark-width s (BV s)
+value-bytes : (s : Sexp) → ascii "BV" ++ sexp-bytes s ≡ body-bytes (BV s)
 unfolding body-bytes record-bytes flatten ascii
-value-parts s = record { width = refl; bytes = simp append-nil }
+value-bytes s = simp append-nil
 
-pub value : (b : Body) → ValidBody b → IsValue b → Value b
-unfolding IsValue BodyFields
-value (BL k l w h bs b) v p = absurd p
-value (BQ s) v p = record { of = BQ; mark = ascii "BQ"; t = s; fields = v .0 .0; parts = quote-parts s; others = quote-parts; rule = λ F q c m. in-quote F q c 0 m s }
-value (BV s) v p = record { of = BV; mark = ascii "BV"; t = s; fields = v .0 .0; parts = value-parts s; others = value-parts; rule = λ F q c m. in-value F q c 0 m s }
-value (BC l bs t) v p = absurd p
-value (BM l f) v p = absurd p
-value (BF l w ca k a b) v p = absurd p
+quoted : (b : Body) → ValidKind IsQuoted b → Value b
+unfolding IsQuoted BodyFields ascii
+quoted (BL k l w h bs b) v = absurd (v .only)
+quoted (BQ s) v =
+    record {
+      x = (ascii "BQ", s);
+      valid = record { mark = refl; fields = v .valid .0 .0 };
+      of = BQ;
+      bytes = quoted-bytes s;
+      others = quoted-bytes;
+      rule = λ F q c m. in-quoted F q c 0 m s;
+    }
+quoted (BV s) v = absurd (v .only)
+quoted (BC l bs t) v = absurd (v .only)
+quoted (BM l f) v = absurd (v .only)
+quoted (BF l w ca k a b) v = absurd (v .only)
 
--- the part for the S record is lent from behind the mark
-pub value-start : {mem a : Bytes} {free : ℕ} {b : Body} (v : Value b) → Filled mem a free (drop 0 mem) mark-width → At mem 0 (body-bytes b) → length (body-bytes b) ≤ free
-    → SexpAtStart (part a mark-width (length a - mark-width)) free (v .t)
-value-start v w here below =
-    let n = whole (v .parts) in
-    start-at mark-width (v .t) (v .fields) (at-below (w .frame) (rest-at (v .parts) here) (omega arith)) (omega arith)
+value : (b : Body) → ValidKind IsValue b → Value b
+unfolding IsValue BodyFields ascii
+value (BL k l w h bs b) v = absurd (v .only)
+value (BQ s) v = absurd (v .only)
+value (BV s) v =
+    record {
+      x = (ascii "BV", s);
+      valid = record { mark = refl; fields = v .valid .0 .0 };
+      of = BV;
+      bytes = value-bytes s;
+      others = value-bytes;
+      rule = λ F q c m. in-value F q c 0 m s;
+    }
+value (BC l bs t) v = absurd (v .only)
+value (BM l f) v = absurd (v .only)
+value (BF l w ca k a b) v = absurd (v .only)
 
-pub value-no-room : {mem : Bytes} {free len f : ℕ} (c : ℕ) → f < mark-width → RenamesValue mem mem free len f c (Refused 7 0)
-value-no-room {f = f} c lt m at q =
+-- of a kind of records that are so
+module _ {Only : Body → Type 0} (see : (b : Body) → ValidKind Only b → Value b) {mem : Bytes} {t : Task} where
+  asks-behind : Asks body-bytes (ValidKind Only) mem t → Asks with-mark-bytes ValidWithMark mem t
+  asks-behind p =
+      let v = see (p .tree) (p .good) in
+      let l = ap length (v .bytes) in
+      record {
+        tree = v .x;
+        good = v .valid;
+        there = subst (At mem 0) (sym (v .bytes)) (p .there);
+        below = omega (arith, p .below);
+        m = p .m;
+        map = p .map;
+        room = p .room;
+      }
+
+  renames-behind : {new : Bytes} {r : Step} → RenamesWithMark mem new t r → InBody Only mem new t r
+  renames-behind {new} {r} s q =
+      record {
+        frame = s .frame;
+        says = λ m map b there below good.
+            let v = see b good in
+            let l = ap length (v .bytes) in
+            let u = rename-atom m (v .x .1) in
+            let g = s .says m map (v .x) (subst (At mem 0) (sym (v .bytes)) there) (omega arith) (v .valid) in
+            let k = same-bytes with-mark-bytes body-bytes (t .f) (t .counter) (v .x .0, u) (v .of u) (v .others u) g in
+            subst (λ (o : Outcome Body). Gives body-bytes new (t .free) (length (body-bytes b)) o r) (sym (v .rule (t .f) q (t .counter) m)) (rw (v .bytes) at k);
+      }
+
+pub asks-quoted : {mem : Bytes} {t : Task} → Asks body-bytes (ValidKind IsQuoted) mem t → Asks with-mark-bytes ValidWithMark mem t
+asks-quoted = asks-behind quoted
+
+pub asks-value : {mem : Bytes} {t : Task} → Asks body-bytes (ValidKind IsValue) mem t → Asks with-mark-bytes ValidWithMark mem t
+asks-value = asks-behind value
+
+pub renames-quoted : {mem new : Bytes} {t : Task} {r : Step} → RenamesWithMark mem new t r → InBody IsQuoted mem new t r
+renames-quoted = renames-behind quoted
+
+pub renames-value : {mem new : Bytes} {t : Task} {r : Step} → RenamesWithMark mem new t r → InBody IsValue mem new t r
+renames-value = renames-behind value
+
+-- a mark and an S record behind it
+mark-parts : {x : WithMark} → ValidWithMark x → (u : Sexp) → Headed sexp-bytes with-mark-bytes (x .0) mark-width u (x .0, u)
+mark-parts v u = record { width = v .mark; bytes = refl }
+
+pub mark-low : {mem : Bytes} {t : Task} → Asks with-mark-bytes ValidWithMark mem t → mark-width ≤ t .free
+mark-low p = omega (arith, whole (mark-parts (p .good) (p .tree .1)), p .below)
+
+pub mark-no-room : {mem : Bytes} {t : Task} {r : Step} → r ≡ Refused over-long → t .f < mark-width → RenamesWithMark mem mem t r
+mark-no-room {t = t} is lt =
     record {
       frame = same-refl;
-      says = λ b a le x.
-          let v = value b (x .0) (x .1) in
-          let u = rename-atom m (v .t) in
-          refused 7 0 (v .rule f q c m ∙ fitting-long body-bytes f c (v .of u) (omega (arith, whole (v .others u)))) refl;
+      says = λ m map x there below v.
+          let u = rename-atom m (x .1) in
+          refused over-long (fitting-long with-mark-bytes (t .f) (t .counter) (x .0, u) (omega (arith, whole (mark-parts v u)))) is;
     }
 
--- after the S record: the mark was copied to free, and the result stands behind it
-module _ (c : ℕ) {mem a y : Bytes} {free len f : ℕ} {r : Step} (w : Filled mem a free (drop 0 mem) mark-width)
-    (s : Substitutes rename-atom (part a mark-width (length a - mark-width)) y free len (f - mark-width) c r)
-    (le : mark-width ≤ f) (fit : free + f + len ≤ length mem) where
-  abbrev end : Bytes
-  end = back a mark-width (length a - mark-width) y
+-- what the S record is given
+abbrev pub behind-task : Task → Task
+behind-task t = record { free = t .free; map = t .map; f = t .f - mark-width; depth = t .depth; counter = t .counter }
 
-  abbrev rule : NameMap → Sexp → Outcome Sexp
-  rule m t = fitting sexp-bytes (f - mark-width) c (rename-atom m t)
+-- the mark is copied to free
+module _ {mem a : Bytes} {t : Task} (p : Asks with-mark-bytes ValidWithMark mem t) (w : Filled mem a (t .free) (drop 0 mem) mark-width) (le : mark-width ≤ t .f) where
+  pub behind-asks : Asks sexp-bytes SexpFields (from a mark-width) (behind-task t)
+  behind-asks =
+      let x = p .tree in
+      let k = mark-parts (p .good) (x .1) in
+      let n = whole k in
+      asks-part mark-width (x .1) (p .good .fields) (at-below (w .frame) (rest-at k (p .there)) (omega (arith, p .below))) (omega (arith, p .below))
+      (map-after (w .frame) (omega (arith, p .room)) (p .map)) (omega (arith, w .frame .size, p .room))
 
-  answers : {m : NameMap} → MapAt mem len m → Answers sexp-bytes SexpFields (rule m) a end mark-width (mark-width + free) (mark-width + free + (f - mark-width)) r
-  answers at = on-part rename-atom (f - mark-width) c mark-width (omega (arith, w .frame .size)) s (map-after (w .frame) (omega arith) at)
+  -- and the S record is answered
+  module _ {y : Bytes} {r : Step} (s : Substitutes rename-atom (from a mark-width) y (behind-task t) r) where
+    abbrev end : Bytes
+    end = rejoin a mark-width y
 
-  framed : {m : NameMap} → MapAt mem len m → SameOutside mem end free (free + f)
-  framed at = same-then free (free + f) (omega arith) (omega arith) (omega arith) (omega arith) (w .frame) (answers at .frame)
+    fit : mark-width + t .free + (t .f - mark-width) + t .map ≤ length a
+    fit = omega (arith, w .frame .size, p .room)
 
-  module _ {m : NameMap} (at : MapAt mem len m) {b : Body} (v : Value b) (here : At mem 0 (body-bytes b)) (below : length (body-bytes b) ≤ free) where
-    part-gives : Gives sexp-bytes end (free + mark-width) (length (sexp-bytes (v .t))) (rule m (v .t)) r
-    part-gives =
-        let n = whole (v .parts) in
-        let e : mark-width + free ≡ free + mark-width = omega arith in
-        subst (λ (p : ℕ). Gives sexp-bytes end p (length (sexp-bytes (v .t))) (rule m (v .t)) r) e
-        (answers at .says (v .t) (at-below (w .frame) (rest-at (v .parts) here) (omega arith)) (omega arith) (v .fields))
+    behind-frame : SameOutside a end (t .free + mark-width) (t .free + t .f)
+    behind-frame = part-frame mark-width fit s (t .free + mark-width) (t .free + t .f) (omega arith) (omega arith)
 
-    marked : At end free (v .mark)
-    marked =
-        let k = v .parts .width in
-        at-below (answers at .frame) (copied-at 0 free w (omega arith) (head-at (v .parts) here) (omega arith) (omega arith) (omega arith)) (omega arith)
+    framed : SameOutside mem end (t .free) (t .free + t .f)
+    framed = same-then (t .free) (t .free + t .f) (omega arith) (omega arith) (omega arith) (omega arith) (w .frame) behind-frame
 
-    -- the sums that are answered
-    pub value-sums : (i j d : ℕ) → r ≡ Done i j d → (mark-width + i ≡ length (body-bytes b)) × (mark-width + j ≤ f)
-    value-sums i j d e =
-        let k = read-wrote (v .others (rename-atom m (v .t))) free f c le part-gives i j d e in
-        (omega (arith, k .0, whole (v .parts)), k .1)
+    module _ {m : NameMap} (map : MapAt mem (t .map) m) {x : WithMark} (v : ValidWithMark x) (here : At mem 0 (with-mark-bytes x)) (below : length (with-mark-bytes x) ≤ t .free) where
+      behind-gives : Gives sexp-bytes end (t .free + mark-width) (length (sexp-bytes (x .1))) (fitting sexp-bytes (t .f - mark-width) (t .counter) (rename-atom m (x .1))) r
+      behind-gives =
+          let k = mark-parts v (x .1) in
+          let n = whole k in
+          part-gives mark-width fit s (t .free + mark-width) (omega arith) (map-after (w .frame) (omega (arith, p .room)) map) (x .1)
+          (at-below (w .frame) (rest-at k here) (omega arith)) (omega arith) (v .fields)
 
-  pub value-refused : (k p : ℕ) → r ≡ Refused k p → RenamesValue mem end free len f c (Refused k p)
-  value-refused k p e m at q =
-      record {
-        frame = framed at;
-        says = λ b a below x.
-            let v = value b (x .0) (x .1) in
-            subst (λ (o : Outcome Body). Gives body-bytes end free (length (body-bytes b)) o (Refused k p)) (sym (v .rule f q c m))
-            (headed-refused (v .others (rename-atom m (v .t))) free f c le (part-gives at v a (omega arith)) k p e);
-      }
+      marked : At end (t .free) (x .0)
+      marked =
+          let k = v .mark in
+          at-below behind-frame (copied-at 0 (t .free) w (omega (arith, p .room)) (head-at (mark-parts v (x .1)) here) (omega arith) (omega arith) (omega arith)) (omega arith)
 
-  pub value-done : (i j d : ℕ) → r ≡ Done i j d → RenamesValue mem end free len f c (Done (mark-width + i) (mark-width + j) d)
-  value-done i j d e m at q =
-      record {
-        frame = framed at;
-        says = λ b a below x.
-            let v = value b (x .0) (x .1) in
-            let l : length (body-bytes b) ≤ free = omega arith in
-            subst (λ (o : Outcome Body). Gives body-bytes end free (length (body-bytes b)) o (Done (mark-width + i) (mark-width + j) d)) (sym (v .rule f q c m))
-            (headed-done (v .others (rename-atom m (v .t))) free f c le (part-gives at v a l) i j d e (marked at v a l) (value-sums at v a l i j d e .0));
-      }
+      -- the sums that are answered
+      sums : (i j d : ℕ) → r ≡ Done i j d → (mark-width + i ≡ length (with-mark-bytes x)) × (mark-width + j ≤ t .f)
+      sums i j d e =
+          let k = read-wrote (mark-parts v (rename-atom m (x .1))) (t .free) (t .f) (t .counter) le behind-gives i j d e in
+          (omega (arith, k .0, whole (mark-parts v (x .1))), k .1)
+
+    pub behind-sums : (i j d : ℕ) → r ≡ Done i j d → (mark-width + i ≤ t .free) × (mark-width + j ≤ t .f)
+    behind-sums i j d e = let k = sums (p .map) (p .good) (p .there) (p .below) i j d e in (omega (arith, k .0, p .below), k .1)
+
+    pub behind-refused : (k : Refusal) → r ≡ Refused k → RenamesWithMark mem end t (Refused k)
+    behind-refused k e =
+        record {
+          frame = framed;
+          says = λ m map x there below v.
+              headed-refused (mark-parts v (rename-atom m (x .1))) (t .free) (t .f) (t .counter) le (behind-gives map v there below) k e;
+        }
+
+    pub behind-done : (i j d : ℕ) → r ≡ Done i j d → RenamesWithMark mem end t (Done (mark-width + i) (mark-width + j) d)
+    behind-done i j d e =
+        record {
+          frame = framed;
+          says = λ m map x there below v.
+              headed-done (mark-parts v (rename-atom m (x .1))) (t .free) (t .f) (t .counter) le (behind-gives map v there below) i j d e (marked map v there below)
+              (sums map v there below i j d e .0);
+        }

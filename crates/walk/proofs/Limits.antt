@@ -11,14 +11,16 @@ use Prim.Native.Nat.{ℕ, zero, suc, _+_, _-_, _^_, _≤_, _<_, max}
 use native.Mathlib.Omega.{arith}
 use lib.Dec.{leb}
 use lib.ListN.{length, getD}
-use Rattle.names.specs.Answers.{Result, refusal, delivered, written}
+use Rattle.names.specs.Answers.{Result, accepted-answer, refused-answer, delivered, written}
 use Rattle.names.specs.Names.{Bytes, ascii, same, name-limit, gensym}
 use Rattle.names.specs.Maps.{NameMap}
+use Rattle.names.specs.Refusals.{placeless}
+use Rattle.names.specs.declared.Refusal.{Refusal}
 use Rattle.records.specs.Depth.{levels, depth, bodies-depth, tail-depth, binding-depth, helper-depth, helpers-depth, form-depth, list-depth}
 use Rattle.records.specs.Limits.{level-limit, most-longest}
 use Rattle.records.specs.Opened.{Opened, opened, closed, open-input}
 use Rattle.records.specs.Read.{Reader, read-whole, readers, whole}
-use Rattle.records.specs.Records.{Loc, loc-number, Sexp, SN, SC, SI, SQ, SA, Parallel, Sequential, Assign, Pattern, Name, Complex, Body, BL, BQ, BV, BC, BM, BF, Bodies, []ᵇ, _∷ᵇ_, Tail, no-tail, tail, Binding, BB, Helper, HC, HM, HD, HN, HR, Helpers, []ʰ, _∷ʰ_, Form, CF, list-of, bindings-count, form-bytes, helper-bytes}
+use Rattle.records.specs.Records.{Loc, Sexp, SN, SC, SI, SQ, SA, Parallel, Sequential, Assign, Pattern, Name, Complex, Body, BL, BQ, BV, BC, BM, BF, Bodies, []ᵇ, _∷ᵇ_, Tail, no-tail, tail, Binding, BB, Helper, HC, HM, HD, HN, HR, Helpers, []ʰ, _∷ʰ_, Form, CF, list-of, bindings-count, form-bytes, helper-bytes}
 use Rattle.records.proofs.Depth.{form-deep, helper-deep}
 use Rattle.records.proofs.Exact.{form-read-back, helper-read-back, bindings-counted}
 use Rattle.records.proofs.Readers.{Any}
@@ -26,14 +28,15 @@ use Rattle.records.proofs.Opened.{OpenedFrom, Start, start}
 use Rattle.ordering.specs.Lawful.{_is-in_}
 use Rattle.ordering.specs.Toposort.{Outcome, ordered, deadlock}
 use Rattle.ordering.specs.Words.{toposort-assign-bindings}
-use Rattle.walk.specs.Steps.{M, Out, done, refused, Visit, ret, refuse, _>>=_, _>>_, after, step, child, further, add-to-sum, take-from-sum, fits}
-use Rattle.walk.specs.Invent.{draw, invent-new-names-sexp, rename-in-cons-step}
+use Rattle.walk.specs.Steps.{M, Out, Event, made, done, refused, over-long, Visit, visits, events, ret, refuse, _>>=_, _>>_, after, step, child, further, add-to-sum, take-from-sum, fits}
+use Rattle.walk.specs.Invent.{name-too-long, draw, invent-new-names-sexp, rename-in-cons-step}
 use Rattle.walk.specs.Patterns.{make-binding-unique, make-bindings-unique}
-use Rattle.walk.specs.Bodyforms.{desugar-sequential-let-bindings, each-body, call-tail, each-binding-body, Rules, args-then-in, rename-args-let, rename-args-desugared, rename-args-sequential, rename-assign-binding, rename-assign-bindings, rename-args-ordered, rename-args-assign, rename-args-bodyform, in-elements, rename-in-bodyform, body-rules, walk, log-assign, logged, no-binding}
+use Rattle.walk.specs.Bodyforms.{desugar-sequential-let-bindings, each-body, call-tail, each-binding-body, Rules, args-then-in, rename-args-let, rename-args-desugared, rename-args-sequential, rename-assign-binding, rename-assign-bindings, rename-args-ordered, rename-args-assign, rename-args-bodyform, in-elements, rename-in-bodyform, body-rules, walk, deadlocked, log-assign, logged, no-binding, rename-in-quoted, rename-in-value}
 use Rattle.walk.specs.Helperforms.{FormRules, each-helper, further-helpers, rename-args-helperform, rename-in-helperform, rename-args-compileform, rename-in-compileform, rename-children-compileform, form-rules, form-walk, whole-walk, children-walk, helper-walk}
-use Rattle.walk.specs.Calls.{visits, answered, rename-call, visits-of, whole-call, children-call, helper-call, whole-visits, children-visits, helper-visits}
+use Rattle.walk.specs.Calls.{answered, call-run, whole-run, children-run, helper-run, whole-call, children-call, helper-call, whole-visits, children-visits, helper-visits}
 use Rattle.records.proofs.Lists.{list-count}
-use Rattle.walk.proofs.All.{All, all-none, all-cons, all-append, all-map, all-in}
+use Rattle.walk.proofs.All.{All, all-none, all-cons, all-map, all-in}
+use Rattle.walk.proofs.Reached.{all-visits}
 use Rattle.walk.proofs.Sizes.{dbl, dbl-add, dbl-mono, dbl-least, dbl-twice, sum-at, order-below, order-sum, depth-to-bindings, depth-list-of, depth-desugar, positive, pick-depth, atoms-desugar, some-level, helper-positive, form-positive}
 use Rattle.walk.proofs.Atoms.{sexp-atoms, pattern-atoms, atoms, bodies-atoms, tail-atoms, binding-atoms, bindings-atoms, helper-atoms, helpers-atoms, form-atoms, patterns-of, inside-of, list-atoms, list-parts, atoms-to-bindings, atoms-list-of, most-cons, few-form, few-helper}
 
@@ -46,8 +49,8 @@ WalkRefusal n = (n ≡ 5) ⊎ ((n ≡ 6) ⊎ (n ≡ 7))
 
 -- from the counter c: at most n further, at each assign reached too, and P of the result; or a refusal of the walk
 abbrev pub Fine : {A : Type 0} → ℕ → (A → Type 0) → ℕ → Out A → Type 0
-Fine n P c (done log a c′ x) = All (Below (c + n)) log × (c′ ≤ c + n) × P a
-Fine n P c (refused log m p) = All (Below (c + n)) log × WalkRefusal m
+Fine n P c (done log a c′ x) = All (Below (c + n)) (visits log) × (c′ ≤ c + n) × P a
+Fine n P c (refused log r) = All (Below (c + n)) (visits log) × WalkRefusal (r .number)
 
 pub record Runs {A : Type 0} (n : ℕ) (P : A → Type 0) (m : M A) : Type 0 where
   pub fine : (c x : ℕ) → Fine n P c (m c x)
@@ -56,14 +59,14 @@ runs-ret : {A : Type 0} {P : A → Type 0} {n : ℕ} (a : A) → P a → Runs n 
 unfolding ret
 runs-ret a p = record { fine = λ c x. (all-none, omega arith, p) }
 
-runs-deadlock : {A : Type 0} {P : A → Type 0} {n : ℕ} (p : ℕ) → Runs {A = A} n P (refuse 5 p)
+runs-deadlock : {A : Type 0} {P : A → Type 0} {n : ℕ} (l : Loc) → Runs {A = A} n P (refuse (deadlocked l))
 unfolding refuse
-runs-deadlock p = record { fine = λ c x. (all-none, inl refl) }
+runs-deadlock l = record { fine = λ c x. (all-none, inl refl) }
 
 module _ {A : Type 0} {P Q : A → Type 0} where
   fine-more : (n k c d : ℕ) (o : Out A) → d + n ≤ c + k → ((a : A) → P a → Q a) → Fine n P d o → Fine k Q c o
   fine-more n k c d (done log a c′ x) h w f = (all-map (λ e q. omega arith) (f .0), omega arith, w a (f .2))
-  fine-more n k c d (refused log m p) h w f = (all-map (λ e q. omega arith) (f .0), f .1)
+  fine-more n k c d (refused log r) h w f = (all-map (λ e q. omega arith) (f .0), f .1)
 
   runs-weaken : {n k : ℕ} {m : M A} → n ≤ k → ((a : A) → P a → Q a) → Runs n P m → Runs k Q m
   runs-weaken {n} {k} {m} h w s = record { fine = λ c x. fine-more n k c c (m c x) (omega arith) w (s .fine c x) }
@@ -72,18 +75,18 @@ module _ {A : Type 0} {P Q : A → Type 0} where
 runs-more : {A : Type 0} {P : A → Type 0} {n k : ℕ} {m : M A} → n ≤ k → Runs n P m → Runs k P m
 runs-more h s = runs-weaken h (λ a p. p) s
 
-fine-after : {A : Type 0} (n : ℕ) (P : A → Type 0) (c : ℕ) (log : List Visit) (o : Out A) → All (Below (c + n)) log → Fine n P c o → Fine n P c (after log o)
+fine-after : {A : Type 0} (n : ℕ) (P : A → Type 0) (c : ℕ) (log : List Event) (o : Out A) → All (Below (c + n)) (visits log) → Fine n P c o → Fine n P c (after log o)
 unfolding after
-fine-after n P c log (done log₂ a c′ x) g f = (all-append g (f .0), f .1, f .2)
-fine-after n P c log (refused log₂ m p) g f = (all-append g (f .0), f .1)
+fine-after n P c log (done log₂ a c′ x) g f = (all-visits log log₂ g (f .0), f .1, f .2)
+fine-after n P c log (refused log₂ r) g f = (all-visits log log₂ g (f .0), f .1)
 
 runs-bind : {A B : Type 0} {n k : ℕ} {P : A → Type 0} {Q : B → Type 0} {m : M A} {f : A → M B} → Runs n P m → ((a : A) → P a → Runs k Q (f a)) → Runs (n + k) Q (m >>= f)
 unfolding _>>=_
 runs-bind {A} {B} {n} {k} {P} {Q} {m} {f} s t = record { fine = λ c x. go c (m c x) (s .fine c x) }
   where
-    go : (c : ℕ) (o : Out A) → Fine n P c o → Fine {A = B} (n + k) Q c (elim o [ done log a c′ x′ ↦ after log (f a c′ x′) | refused log m p ↦ refused log m p ])
+    go : (c : ℕ) (o : Out A) → Fine n P c o → Fine {A = B} (n + k) Q c (elim o [ done log a c′ x′ ↦ after log (f a c′ x′) | refused log r ↦ refused log r ])
     go c (done log a c′ x′) r = fine-after (n + k) Q c log (f a c′ x′) (all-map (λ e q. omega arith) (r .0)) (fine-more k (n + k) c c′ (f a c′ x′) (omega arith) (λ b q. q) (t a (r .2) .fine c′ x′))
-    go c (refused log m p) r = (all-map (λ e q. omega arith) (r .0), r .1)
+    go c (refused log y) r = (all-map (λ e q. omega arith) (r .0), r .1)
 
 -- at most so deep, and so many atoms
 abbrev pub Small : ℕ → ℕ → Body → Type 0
@@ -107,7 +110,7 @@ module _ (F : ℕ) where
   unfolding add-to-sum
   runs-add-to-sum n = record { fine = λ c x. go c x (leb (x + n) F) }
     where
-      go : (c x : ℕ) (b : Bool) → Fine {A = Unit {0}} 0 Any c (elim b [ true ↦ done [] tt c (x + n) | false ↦ refused [] 7 0 ])
+      go : (c x : ℕ) (b : Bool) → Fine {A = Unit {0}} 0 Any c (elim b [ true ↦ done [] tt c (x + n) | false ↦ refused [] over-long ])
       go c x true = (all-none, omega arith, tt)
       go c x false = (all-none, inr (inr refl))
 
@@ -120,13 +123,13 @@ module _ (F : ℕ) where
     unfolding step fits
     runs-step {m} s = record { fine = λ c x. go c x (m c 0) (s .fine c 0) }
       where
-        go₂ : (c : ℕ) (a : A) (c′ x : ℕ) → (c′ ≤ c + n) × P a → (b : Bool) → Fine {A = A} n P c (elim b [ true ↦ done [] a c′ x | false ↦ refused [] 7 0 ])
+        go₂ : (c : ℕ) (a : A) (c′ x : ℕ) → (c′ ≤ c + n) × P a → (b : Bool) → Fine {A = A} n P c (elim b [ true ↦ done [] a c′ x | false ↦ refused [] over-long ])
         go₂ c a c′ x p true = (all-none, p .0, p .1)
         go₂ c a c′ x p false = (all-none, inr (inr refl))
 
-        go : (c x : ℕ) (o : Out A) → Fine n P c o → Fine {A = A} n P c (elim o [ done log a c′ x′ ↦ after log (fits F size a c′ x) | refused log m p ↦ refused log m p ])
+        go : (c x : ℕ) (o : Out A) → Fine n P c o → Fine {A = A} n P c (elim o [ done log a c′ x′ ↦ after log (fits F size a c′ x) | refused log r ↦ refused log r ])
         go c x (done log a c′ x′) f = fine-after n P c log (fits F size a c′ x) (f .0) (go₂ c a c′ x (f .1, f .2) (leb (size a) F))
-        go c x (refused log m p) f = f
+        go c x (refused log r) f = f
 
     runs-child : {m : M A} → Runs n P m → Runs n P (child F size m)
     unfolding child _>>_
@@ -140,7 +143,7 @@ module _ (F : ℕ) where
   unfolding draw
   runs-draw n = record { fine = λ c x. go c x (leb (length (gensym n c)) name-limit) }
     where
-      go : (c x : ℕ) (b : Bool) → Fine {A = Bytes} 1 Any c (elim b [ true ↦ done [] (gensym n c) (c + 1) x | false ↦ refused [] 6 0 ])
+      go : (c x : ℕ) (b : Bool) → Fine {A = Bytes} 1 Any c (elim b [ true ↦ done (made n (gensym n c) ∷ []) (gensym n c) (c + 1) x | false ↦ refused [] name-too-long ])
       go c x true = (all-none, omega arith, tt)
       go c x false = (all-none, inr (inl refl))
 
@@ -280,8 +283,8 @@ module _ (F : ℕ) where
     runs-rename-args-assign l k h bs b x y = go (toposort-assign-bindings bs) refl
       where
         go : (o : Outcome) → toposort-assign-bindings bs ≡ o
-            → Runs (dbl (suc d) (list-atoms bs + atoms b)) (Small (1 + max (list-depth bs) (depth b)) (list-atoms bs + atoms b)) (elim o as (λ _. M Body) [ deadlock _ ↦ refuse 5 (loc-number l) | ordered is ↦ rename-args-ordered F r l k h bs b is ])
-        go (deadlock left) q = runs-deadlock (loc-number l)
+            → Runs (dbl (suc d) (list-atoms bs + atoms b)) (Small (1 + max (list-depth bs) (depth b)) (list-atoms bs + atoms b)) (elim o as (λ _. M Body) [ deadlock _ ↦ refuse (deadlocked l) | ordered is ↦ rename-args-ordered F r l k h bs b is ])
+        go (deadlock left) q = runs-deadlock l
         go (ordered is) q = runs-rename-args-ordered l k h bs b is q x y
 
     runs-rename-args-bodyform : Bounded (suc d) (rename-args-bodyform F r)
@@ -318,7 +321,7 @@ module _ (F : ℕ) where
         runs-bind (runs-each-body d (s .in-bodyform m) bs (omega arith)) λ bs′ q. runs-ret {n = 0} _ (omega (arith, ap depth e), omega (arith, ap atoms e)))
 
     runs-rename-in-bodyform : (m : NameMap) → Bounded (suc d) (rename-in-bodyform F r m)
-    unfolding rename-in-bodyform atoms depth
+    unfolding rename-in-quoted rename-in-value rename-in-bodyform atoms depth
     runs-rename-in-bodyform m (BL k l w h bs b) z =
         let x = inside-of (list-of bs) in
         let y = atoms b in
@@ -346,7 +349,7 @@ module _ (F : ℕ) where
   fine-logged : (n : ℕ) (P : Body → Type 0) (c : ℕ) (e : Option Body → Visit) → ((o : Option Body) → Below (c + n) (e o)) → (o : Out Body) → Fine n P c o → Fine n P c (logged e o)
   unfolding logged
   fine-logged n P c e h (done log a c′ x) f = (all-cons (h (some a)) (f .0), f .1, f .2)
-  fine-logged n P c e h (refused log m p) f = (all-cons (h none) (f .0), f .1)
+  fine-logged n P c e h (refused log r) f = (all-cons (h none) (f .0), f .1)
 
   runs-reach : {n : ℕ} {P : Body → Type 0} {m : M Body} (b : Body) → Runs n P m → Runs n P (log-assign b m)
   unfolding log-assign
@@ -504,10 +507,10 @@ unfolding dbl
 most-draws = refl
 
 -- a call from the counter c, the assigns that it reaches, and its answer: no number above 8, and no counter that passes 64 bits
-pub record CallRuns (c : ℕ) (reached : List Visit) (r : Result) : Type 0 where
-  pub number : r .0 .number ≤ 8
+pub record CallRuns (c : ℕ) (list : List Visit) (r : Result) : Type 0 where
+  pub number : r .0 .refusal .number ≤ 8
   pub counter : r .0 .counter ≤ c + most
-  pub inside : (e : Visit) → e is-in reached → e .counter ≤ c + most
+  pub inside : (e : Visit) → e is-in list → e .counter ≤ c + most
 
 module _ {A : Type 0} (reader : Reader A) (walk-of : ℕ → A → M A) (bytes : A → Bytes) (deep count : A → ℕ)
     (shallow : (input : Bytes) (a : A) (o : Option ℕ) → read-whole reader input ≡ whole a o → deep a ≤ level-limit)
@@ -518,56 +521,56 @@ module _ {A : Type 0} (reader : Reader A) (walk-of : ℕ → A → M A) (bytes :
   bounded F work c input a q = s F a (shallow input a none (q .read)) .fine c 0
 
   -- the walk of an input that is opened refuses with 5, 6 or 7 and nothing else
-  walk-refuses : (F work c : ℕ) (input : Bytes) (a : A) {log : List Visit} {n p : ℕ} → open-input reader F work c input ≡ opened a → walk-of F a c 0 ≡ refused log n p → WalkRefusal n
-  walk-refuses F work c input a e r =
+  walk-refuses : (F work c : ℕ) (input : Bytes) (a : A) {log : List Event} {r : Refusal} → open-input reader F work c input ≡ opened a → walk-of F a c 0 ≡ refused log r → WalkRefusal (r .number)
+  walk-refuses F work c input a e w =
       let q : OpenedFrom reader F c input a = rw e at (start reader F work c input) in
-      let f = rw r at (bounded F work c input a q) in
+      let f = rw w at (bounded F work c input a q) in
       f .1
 
-  call-runs : (F work c : ℕ) (input buffer : Bytes) → CallRuns c (visits-of reader walk-of F work c input) (rename-call reader walk-of bytes F work c input buffer)
-  unfolding visits-of rename-call visits answered refusal delivered
+  call-runs : (F work c : ℕ) (input buffer : Bytes) → let o = call-run reader walk-of F work c input in CallRuns c (visits (events o)) (answered bytes c buffer o)
+  unfolding call-run answered refused-answer delivered
   call-runs F work c input buffer = go (open-input reader F work c input) (start reader F work c input)
     where
-      delivers : {log : List Visit} (b : Bytes) (c′ : ℕ) → All (Below (c + most)) log → c′ ≤ c + most → (t : Bool)
-          → CallRuns c log (elim t as (λ _. Result) [ true ↦ (record { number = 0; place = 0; counter = c′; rounds = 0; len = length b }, written b buffer) | false ↦ refusal c buffer 8 0 ])
+      delivers : {list : List Visit} (b : Bytes) (c′ : ℕ) → All (Below (c + most)) list → c′ ≤ c + most → (t : Bool)
+          → CallRuns c list (elim t as (λ _. Result) [ true ↦ (accepted-answer c′ 0 (length b), written b buffer) | false ↦ refused-answer c buffer (placeless 8) ])
       delivers b c′ g h true = record { number = omega arith; counter = h; inside = λ e m. all-in g m }
       delivers b c′ g h false = record { number = omega arith; counter = omega arith; inside = λ e m. all-in g m }
 
-      small : {m : ℕ} → WalkRefusal m → m ≤ 8
+      small : {n : ℕ} → WalkRefusal n → n ≤ 8
       small (inl e) = omega arith
       small (inr (inl e)) = omega arith
       small (inr (inr e)) = omega arith
 
-      walked : (n : ℕ) (P : A → Type 0) → dbl level-limit n ≤ most → (o : Out A) → Fine (dbl level-limit n) P c o → CallRuns c (visits o) (answered bytes c buffer o)
+      walked : (n : ℕ) (P : A → Type 0) → dbl level-limit n ≤ most → (o : Out A) → Fine (dbl level-limit n) P c o → CallRuns c (visits (events o)) (answered bytes c buffer o)
       walked n P l (done log b c′ h) f = delivers (bytes b) c′ (all-map (λ e q. omega arith) (f .0)) (omega (arith, f .1)) (leb (length (bytes b)) (length buffer))
-      walked n P l (refused log m p) f = record { number = small (f .1); counter = omega arith; inside = λ e m. omega (arith, all-in (f .0) m) }
+      walked n P l (refused log r) f = record { number = small (f .1); counter = omega arith; inside = λ e m. omega (arith, all-in (f .0) m) }
 
       go : (o : Opened A) → Start reader F work c input o
-          → CallRuns c (elim o [ closed n p ↦ [] | opened a ↦ visits (walk-of F a c 0) ]) (elim o as (λ _. Result) [ closed n p ↦ refusal c buffer n p | opened a ↦ answered bytes c buffer (walk-of F a c 0) ])
-      go (closed n p) q = record { number = omega arith; counter = omega arith; inside = λ e m. absurd (List·Memᴰ·not-nil m) }
+          → let w : Out A = elim o [ closed r ↦ refused [] r | opened a ↦ walk-of F a c 0 ] in CallRuns c (visits (events w)) (answered bytes c buffer w)
+      go (closed r) q = record { number = omega arith; counter = omega arith; inside = λ e m. absurd (List·Memᴰ·not-nil m) }
       go (opened a) q =
           let h : count a ≤ most-longest = omega (arith, few a, ap length (back input a none (q .read))) in
           walked (count a) _ (omega (arith, most-draws, dbl-mono level-limit (count a) most-longest h)) (walk-of F a c 0) (bounded F work c input a q)
 
 module _ (F work c : ℕ) (input buffer : Bytes) where
   pub whole-call-runs : CallRuns c (whole-visits F work c input) (whole-call F work c input buffer)
-  unfolding whole-call whole-visits
+  unfolding whole-call whole-visits whole-run
   whole-call-runs = call-runs _ whole-walk form-bytes form-depth form-atoms form-deep form-read-back few-form whole-runs F work c input buffer
 
   pub children-call-runs : CallRuns c (children-visits F work c input) (children-call F work c input buffer)
-  unfolding children-call children-visits
+  unfolding children-call children-visits children-run
   children-call-runs = call-runs _ children-walk form-bytes form-depth form-atoms form-deep form-read-back few-form children-runs F work c input buffer
 
   pub helper-call-runs : CallRuns c (helper-visits F work c input) (helper-call F work c input buffer)
-  unfolding helper-call helper-visits
+  unfolding helper-call helper-visits helper-run
   helper-call-runs = call-runs _ helper-walk helper-bytes helper-depth helper-atoms helper-deep helper-read-back few-helper helper-runs F work c input buffer
 
   -- once the walk has begun, it refuses with 5, 6 or 7 and nothing else
-  pub whole-refuses : (f : Form) {log : List Visit} {n p : ℕ} → open-input (readers level-limit .form) F work c input ≡ opened f → whole-walk F f c 0 ≡ refused log n p → WalkRefusal n
+  pub whole-refuses : (f : Form) {log : List Event} {r : Refusal} → open-input (readers level-limit .form) F work c input ≡ opened f → whole-walk F f c 0 ≡ refused log r → WalkRefusal (r .number)
   whole-refuses = walk-refuses _ whole-walk form-bytes form-depth form-atoms form-deep form-read-back few-form whole-runs F work c input
 
-  pub children-refuses : (f : Form) {log : List Visit} {n p : ℕ} → open-input (readers level-limit .form) F work c input ≡ opened f → children-walk F f c 0 ≡ refused log n p → WalkRefusal n
+  pub children-refuses : (f : Form) {log : List Event} {r : Refusal} → open-input (readers level-limit .form) F work c input ≡ opened f → children-walk F f c 0 ≡ refused log r → WalkRefusal (r .number)
   children-refuses = walk-refuses _ children-walk form-bytes form-depth form-atoms form-deep form-read-back few-form children-runs F work c input
 
-  pub helper-refuses : (x : Helper) {log : List Visit} {n p : ℕ} → open-input (readers level-limit .helper) F work c input ≡ opened x → helper-walk F x c 0 ≡ refused log n p → WalkRefusal n
+  pub helper-refuses : (x : Helper) {log : List Event} {r : Refusal} → open-input (readers level-limit .helper) F work c input ≡ opened x → helper-walk F x c 0 ≡ refused log r → WalkRefusal (r .number)
   helper-refuses = walk-refuses _ helper-walk helper-bytes helper-depth helper-atoms helper-deep helper-read-back few-helper helper-runs F work c input

@@ -1,6 +1,5 @@
 -- A `(quote v)` that is rebuilt: where v stands, and what the four writes of `requote` make. Assumes nothing.
 use mathlib.Core.Path.{_≡_, refl, sym, ap, subst, _∙_}
-use mathlib.Core.Bool.{Bool}
 use mathlib.Core.List.{_++_, flatten, append-assoc, append-nil}
 use native.Mathlib.Omega.{arith}
 use Prim.Native.Nat.{ℕ, _+_, _-_, _≤_, _<_}
@@ -12,14 +11,17 @@ use Rattle.names.proofs.Frames.{same-refl, same-then, at-below, at-above, fille
 use Rattle.names.proofs.Parts.{into, part}
 use Rattle.names.proofs.Places.{at-place, at-whole, at-left, at-right, at-join}
 use Rattle.records.specs.Answer.{gave, refused}
-use Rattle.records.specs.Records.{Loc, Sexp, SN, SC, SI, SQ, SA, loc-width, sexp-bytes, record-bytes}
+use Rattle.records.specs.Records.{head-width, mark-width, Loc, Sexp, SN, SC, SI, SQ, SA, loc-width, sexp-bytes, record-bytes}
 use Rattle.records.specs.Sexps.{loc-of}
 use Rattle.records.specs.Valid.{ValidLoc, SexpFields}
+use Rattle.records.specs.declared.Step.{Step}
 use Rattle.records.specs.declared.Step.the-variants.{Done, Refused}
-use Rattle.records.specs.Views.{mark-width}
-use Rattle.walk.specs.Arena.{head-width, fitting, Measures, SexpAtStart}
-use Rattle.walk.specs.Plans.{Plans, Remakes, substitution}
+use Rattle.records.specs.Parts.{Skips, fields-part}
+use Rattle.walk.specs.Arena.{fitting, Asks, Substitutes}
+use Rattle.walk.specs.Steps.{over-long}
+use Rattle.walk.specs.Plans.{Plans}
 use Rattle.walk.specs.declared.Plan.the-variants.{Requoted}
+use Rattle.walk.specs.declared.Task.{Task}
 use Rattle.walk.proofs.Fits.{done-is, fitting-fits, fitting-long}
 use Rattle.walk.proofs.HeadLaws.{element}
 use Rattle.walk.proofs.Pairs.{cons-width, cons-length}
@@ -44,7 +46,7 @@ marked (SA l n) = record { mark = ascii "SA"; rest = _; width = refl; is = refl 
 -- so its L stands behind its mark
 record Located (s : Bytes) (at : ℕ) (v : Sexp) : Type 0 where
   there : At s (at + mark-width) (loc-of v)
-  width : ValidLoc (loc-of v)
+  valid : ValidLoc (loc-of v)
   within : head-width ≤ length (sexp-bytes v)
 
 located : {s : Bytes} {at : ℕ} (v : Sexp) → SexpFields v → At s at (sexp-bytes v) → Located s at v
@@ -54,7 +56,7 @@ located {s} {at} v w a =
     let b = at-right (k .mark) (loc-of v ++ k .rest) (subst (At s at) (k .is) a) in
     record {
       there = at-place (at + mark-width) (omega (arith, k .width)) (at-left (loc-of v) (k .rest) b);
-      width = l;
+      valid = l;
       within = least-sexp v w;
     }
 
@@ -122,7 +124,7 @@ module _ {mem a b c new : Bytes} {free last : ℕ} (at : ℕ) (low : last ≤ fr
       let r = at-right l₂ (t ++ sexp-bytes z) (at-right o (l₂ ++ (t ++ sexp-bytes z)) y) in
       let there : At mem at t = at-place at (omega (arith, w .2 .0)) (at-left t (sexp-bytes z) r) in
       let i = located v (w .2 .1) there in
-      let lk : length k ≡ loc-width = i .width in
+      let lk : length k ≡ loc-width = i .valid .width in
       let lt : head-width ≤ length t = i .within in
       let loc-a : At a (at + mark-width) k = at-below (f₁ .frame) (i .there) (omega arith) in
       let loc-c : At c (at + mark-width) k = at-below (f₃ .frame) (at-below (f₂ .frame) loc-a (omega arith)) (omega arith) in
@@ -142,7 +144,7 @@ module _ {mem a b c new : Bytes} {free last : ℕ} (at : ℕ) (low : last ≤ fr
       (at-join t (n ++ k) (stays (at-above (f₂ .frame) a₃ (omega arith)) (omega arith))
       (at-join n k (at-below (f₄ .frame) a₄ (omega arith)) a₅))))
 
-module _ (inside qq : Bool) {mem : Bytes} {at end : ℕ} (x : Plans inside qq mem (Requoted at end)) where
+module _ (by : NameMap → Sexp → Sexp) {mem : Bytes} {at end : ℕ} (x : Plans by mem (Requoted at end)) where
   -- the record t that is rebuilt, with v where the plan says
   pub record Seen (t : Sexp) : Type 0 where
     l : Loc
@@ -154,7 +156,7 @@ module _ (inside qq : Bool) {mem : Bytes} {at end : ℕ} (x : Plans inside qq me
     starts : At mem 0 (sexp-bytes (SC l h (SC l₂ v z)))
     place : at ≡ head-width + length (sexp-bytes h) + head-width
     ends : end ≡ length (sexp-bytes t)
-    rule : (m : NameMap) → substitution inside qq m t ≡ remade l h v
+    rule : (m : NameMap) → by m t ≡ remade l h v
     wide : length (sexp-bytes (remade l h v)) ≡ at + length (sexp-bytes v) + head-width
     pub fields : SexpFields v
     pub there : At mem at (sexp-bytes v)
@@ -164,7 +166,7 @@ module _ (inside qq : Bool) {mem : Bytes} {at end : ℕ} (x : Plans inside qq me
   pub seen : (t : Sexp) → SexpFields t → At mem 0 (sexp-bytes t) → Seen t
   unfolding SexpFields
   seen t w a =
-      let k = plan-says inside qq x t w a in
+      let k = plan-says by x t w a in
       let q = k .1 in
       let y = subst SexpFields (q .is) w in
       let b = subst (λ (u : Sexp). At mem 0 (sexp-bytes u)) (q .is) a in
@@ -180,7 +182,7 @@ module _ (inside qq : Bool) {mem : Bytes} {at end : ℕ} (x : Plans inside qq me
         starts = b;
         place = q .place;
         ends = k .0;
-        rule = q .rule;
+        rule = q .makes;
         wide = omega (arith, remade-length (q .l) (q .h) (q .v) (y .0) (valid-loc-of (q .v) (i .fields)), q .place);
         fields = i .fields;
         there = at-place at (sym (q .place)) (i .there);
@@ -189,35 +191,37 @@ module _ (inside qq : Bool) {mem : Bytes} {at end : ℕ} (x : Plans inside qq me
       }
 
   -- v has n bytes
-  module _ {n : ℕ} (size : Measures (part mem at (length mem - at)) n) where
+  module _ {n : ℕ} (size : Skips fields-part (part mem at (length mem - at)) n) where
     pub measured : {t : Sexp} (k : Seen t) → n ≡ length (sexp-bytes (k .v))
-    measured k = size .measures (k .v) (k .fields) (into (k .there))
+    measured k = size .skips (k .v) (k .fields) (into (k .there))
 
-    module _ (f c : ℕ) where
-      pub requote-long : {free : ℕ} → f < at + n + mark-width + loc-width → Remakes inside qq mem mem free f c (Refused 7 0)
-      requote-long lt m =
+    module _ {t : Task} where
+      pub requote-long : {r : Step} → r ≡ Refused over-long → t .f < at + n + head-width → Substitutes by mem mem t r
+      requote-long is lt =
           record {
             frame = same-refl;
-            says = λ t a b w.
-                let k = seen t w a in
+            says = λ m map x a b w.
+                let k = seen x w a in
                 let s = measured k in
-                refused 7 0 (ap (fitting sexp-bytes f c) (k .rule m) ∙ fitting-long sexp-bytes f c (remade (k .l) (k .h) (k .v)) (omega (arith, k .wide))) refl;
+                let long = fitting-long sexp-bytes (t .f) (t .counter) (remade (k .l) (k .h) (k .v)) (omega (arith, k .wide)) in
+                refused over-long (ap (fitting sexp-bytes (t .f) (t .counter)) (k .rule m) ∙ long) is;
           }
 
-      pub requote-done : {a b d new : Bytes} {free : ℕ} {t₀ : Sexp} → SexpAtStart mem free t₀ → at + n + mark-width + loc-width ≤ f → free + f ≤ length mem
-          → Filled mem a free (drop 0 mem) (at + n) → Filled a b (free + at - loc-width) (drop (at + mark-width) a) loc-width
-          → Filled b d (free + (at + n)) (ascii "SN") mark-width → Filled d new (free + (at + n) + mark-width) (drop (at + mark-width) d) loc-width
-          → Remakes inside qq mem new free f c (Done end (at + n + mark-width + loc-width) c)
-      requote-done {free = free} {t₀} here le fit f₁ f₂ f₃ f₄ m =
-          let k₀ = seen t₀ (here .fields) (here .there) in
-          let low : at + n ≤ free = omega (arith, k₀ .within, measured k₀, here .below) in
+      pub requote-done : {a b d new : Bytes} → Asks sexp-bytes SexpFields mem t → at + n + head-width ≤ t .f
+          → Filled mem a (t .free) (drop 0 mem) (at + n) → Filled a b (t .free + at - loc-width) (drop (at + mark-width) a) loc-width
+          → Filled b d (t .free + (at + n)) (ascii "SN") mark-width → Filled d new (t .free + (at + n) + mark-width) (drop (at + mark-width) d) loc-width
+          → Substitutes by mem new t (Done end (at + n + head-width) (t .counter))
+      requote-done p le f₁ f₂ f₃ f₄ =
+          let k₀ = seen (p .tree) (p .good) (p .there) in
+          let low : at + n ≤ t .free = omega (arith, k₀ .within, measured k₀, p .below) in
+          let fit : t .free + (at + n) + head-width ≤ length mem = omega (arith, p .room) in
           record {
-            frame = requoted-frame at low (omega arith) f₁ f₂ f₃ f₄ (free + f) (omega (arith, k₀ .behind)) (omega arith) (omega arith);
-            says = λ t a b w.
-                let k = seen t w a in
+            frame = requoted-frame at low fit f₁ f₂ f₃ f₄ (t .free + t .f) (omega (arith, k₀ .behind)) (omega arith) (omega arith);
+            says = λ m map x a b w.
+                let k = seen x w a in
                 let u = remade (k .l) (k .h) (k .v) in
                 let s = measured k in
-                let is = ap (fitting sexp-bytes f c) (k .rule m) ∙ fitting-fits sexp-bytes f c u (omega (arith, k .wide)) in
-                gave u c is (done-is (k .ends) (omega (arith, k .wide)) refl)
-                (requoted at low (omega arith) f₁ f₂ f₃ f₄ (k .l) (k .h) (k .l₂) (k .v) (k .z) (k .valid) (k .starts) (k .place) (omega arith));
+                let is = ap (fitting sexp-bytes (t .f) (t .counter)) (k .rule m) ∙ fitting-fits sexp-bytes (t .f) (t .counter) u (omega (arith, k .wide)) in
+                gave u (t .counter) is (done-is (k .ends) (omega (arith, k .wide)) refl)
+                (requoted at low fit f₁ f₂ f₃ f₄ (k .l) (k .h) (k .l₂) (k .v) (k .z) (k .valid) (k .starts) (k .place) (omega arith));
           }

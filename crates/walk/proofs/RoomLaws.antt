@@ -13,10 +13,8 @@ use Rattle.names.proofs.Fields.{name-field-length}
 use Rattle.names.proofs.Gensym.{gensym-length}
 use Rattle.names.proofs.Parts.{part, part-length}
 use Rattle.records.specs.Limits.{level-limit, most-longest, work-factor}
-use Rattle.records.specs.Records.{Loc, byte, record-bytes, Sexp, sexp-bytes, Name, pattern-field, Body, BL, BQ, BV, BC, BM, BF, body-bytes, no-tail, tail, tail-bytes, BB, binding-bytes, CF, form-bytes}
+use Rattle.records.specs.Records.{head-width, mark-width, Loc, byte, record-bytes, Sexp, sexp-bytes, Name, pattern-field, Body, BL, BQ, BV, BC, BM, BF, body-bytes, no-tail, tail, tail-bytes, BB, binding-bytes, CF, form-bytes}
 use Rattle.records.specs.Valid.{SexpFields, BodyFields, BindingFields}
-use Rattle.records.specs.Views.{mark-width}
-use Rattle.walk.specs.Arena.{head-width}
 use Rattle.walk.proofs.Views.{least-sexp}
 use Rattle.walk.specs.Inventing.{Roomy, atom-size, counter-limit, map-growth}
 use Rattle.walk.specs.Room.{aside-factor, result-factor, level-room, room, HasRoom}

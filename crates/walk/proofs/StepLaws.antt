@@ -1,26 +1,28 @@
--- A step that has its value at once gives it where it fits: so does `rename_in_cons` as a step. Assumes nothing.
-use mathlib.Core.Path.{_≡_, refl}
+-- What runs give one after the other; a step that has its value at once gives it where it fits, and so does `rename_in_cons` as a step. Assumes nothing.
+use mathlib.Core.Path.{_≡_, refl, ap, _∙_}
 use mathlib.Core.Bool.{Bool, true, false}
-use mathlib.Core.List.{[]}
+use mathlib.Core.List.{List, []}
+use native.Mathlib.Omega.{arith}
 use Prim.Native.Nat.{ℕ}
 use lib.Dec.{leb}
 use lib.ListN.{length}
 use Rattle.names.specs.Maps.{NameMap}
 use Rattle.names.specs.Names.{Bytes}
+use Rattle.names.specs.declared.Refusal.{Refusal}
 use Rattle.records.specs.Answer.{Outcome, gives, refuses}
 use Rattle.records.specs.Records.{Sexp, sexp-bytes}
 use Rattle.walk.specs.Arena.{fitting, outcome}
 use Rattle.walk.specs.Invent.{rename-in-cons-step}
 use Rattle.walk.specs.RenameInCons.{rename-in-cons}
-use Rattle.walk.specs.Steps.{Out, done, refused, after, ret, fits, step, sexp-size}
+use Rattle.walk.specs.Steps.{Event, Out, done, refused, over-long, M, after, _>>=_, ret, fits, step, sexp-size}
 
 pub step-fits : {A : Type 0} (bytes : A → Bytes) (F c x : ℕ) (a : A) → outcome (step F (λ y. length (bytes y)) (ret a) c x) ≡ fitting bytes F c a
 unfolding outcome step ret fits fitting after
 step-fits {A} bytes F c x a = go (leb (length (bytes a)) F)
   where
     go : (b : Bool)
-        → outcome {A = A} (after [] (elim b as (λ _. Out A) [ true ↦ done [] a c x | false ↦ refused [] 7 0 ]))
-        ≡ elim b as (λ _. Outcome A) [ true ↦ gives a c | false ↦ refuses 7 0 ]
+        → outcome {A = A} (after [] (elim b as (λ _. Out A) [ true ↦ done [] a c x | false ↦ refused [] over-long ]))
+        ≡ elim b as (λ _. Outcome A) [ true ↦ gives a c | false ↦ refuses over-long ]
     go true = refl
     go false = refl
 
@@ -28,3 +30,30 @@ step-fits {A} bytes F c x a = go (leb (length (bytes a)) F)
 pub substitute-fits : (F : ℕ) (qq : Bool) (m : NameMap) (s : Sexp) (c x : ℕ) → outcome (rename-in-cons-step F qq m s c x) ≡ fitting sexp-bytes F c (rename-in-cons qq m s)
 unfolding rename-in-cons-step sexp-size
 substitute-fits F qq m s c x = step-fits sexp-bytes F c x (rename-in-cons qq m s)
+
+-- what was reached before does not change what is given
+outcome-after : {A : Type 0} (log : List Event) (o : Out A) → outcome (after log o) ≡ outcome o
+unfolding outcome after
+outcome-after log (done l a c x) = refl
+outcome-after log (refused l r) = refl
+
+-- one run, and then another from where it ended
+module _ {A B : Type 0} (m : M A) (f : A → M B) (c x : ℕ) where
+  pub outcome-then : {a : A} {c′ : ℕ} {o : Outcome B} → outcome (m c x) ≡ gives a c′ → ((y : ℕ) → outcome (f a c′ y) ≡ o) → outcome ((m >>= f) c x) ≡ o
+  unfolding outcome _>>=_
+  outcome-then {a} {c′} {o} e k = go (m c x) e
+    where
+      go : (r : Out A) → outcome r ≡ gives a c′ → outcome {A = B} (elim r as (λ _. Out B) [ done log a c′ x′ ↦ after log (f a c′ x′) | refused log r ↦ refused log r ]) ≡ o
+      go (done log b d y) q =
+          let is : b ≡ a = cc in
+          let at : d ≡ c′ = cc in
+          outcome-after log (f b d y) ∙ ap (λ (z : A). outcome (f z d y)) is ∙ ap (λ (z : ℕ). outcome (f a z y)) at ∙ k y
+      go (refused log r) q = let z : _≡_ {A = ℕ} 0 1 = cc in absurd (omega arith)
+
+  pub outcome-stop : {r : Refusal} → outcome (m c x) ≡ refuses r → outcome ((m >>= f) c x) ≡ refuses r
+  unfolding outcome _>>=_
+  outcome-stop {r} e = go (m c x) e
+    where
+      go : (o : Out A) → outcome o ≡ refuses r → outcome {A = B} (elim o as (λ _. Out B) [ done log a c′ x′ ↦ after log (f a c′ x′) | refused log r ↦ refused log r ]) ≡ refuses r
+      go (done log b d y) q = let z : _≡_ {A = ℕ} 0 1 = cc in absurd (omega arith)
+      go (refused log k) q = let a : k ≡ r = cc in cc

@@ -10,10 +10,11 @@ use lib.Dec.{leb, T, leb→le, le→leb}
 use lib.ListN.{length, length-append}
 use Rattle.names.specs.Maps.{NameMap}
 use Rattle.names.specs.Names.{ascii}
+use Rattle.names.specs.declared.Refusal.{Refusal}
 use Rattle.records.specs.Records.{Loc, Sexp, SN, SC, SI, SQ, SA, sexp-bytes, record-bytes}
 use Rattle.records.specs.Sexps.{nilp, is-atom}
 use Rattle.walk.specs.RenameInCons.{rename-in-cons, rename-in-qq, only-in-cons, only-in-qq}
-use Rattle.walk.specs.Steps.{M, Out, done, refused, Visit, ret, _>>=_, _>>_, after, step, child, add-to-sum, fits, sexp-size}
+use Rattle.walk.specs.Steps.{M, Out, Event, done, refused, over-long, ret, _>>=_, _>>_, after, step, child, add-to-sum, fits, sexp-size}
 use Rattle.walk.specs.Invent.{rename-in-cons-step}
 use Rattle.walk.specs.Sums.{finished, rename-in-cons-sums, rename-in-qq-sums, only-in-cons-sums, only-in-qq-sums}
 
@@ -21,21 +22,24 @@ use Rattle.walk.specs.Sums.{finished, rename-in-cons-sums, rename-in-qq-
 pub record Runs {A : Type 0} (m : M A) (c x : ℕ) (o : Out A) : Type 0 where
   pub answers : m c x ≡ o
 
-after-nil : {A : Type 0} (o : Out A) → after [] o ≡ o
+pub after-nil : {A : Type 0} (o : Out A) → after [] o ≡ o
 unfolding after
 after-nil (done log a c x) = refl
-after-nil (refused log n p) = refl
+after-nil (refused log r) = refl
 
 pub runs-ret : {A : Type 0} {a : A} {c x : ℕ} → Runs (ret a) c x (done [] a c x)
 unfolding ret
 runs-ret = record { answers = refl }
 
 module _ {A B : Type 0} {m : M A} (k : A → M B) where
-  pub runs-bind : {c x c′ x′ : ℕ} {a : A} {o : Out B} → Runs m c x (done [] a c′ x′) → Runs (k a) c′ x′ o → Runs (m >>= k) c x o
+  pub runs-then : {c x c′ x′ : ℕ} {log : List Event} {a : A} → Runs m c x (done log a c′ x′) → Runs (m >>= k) c x (after log (k a c′ x′))
   unfolding _>>=_
-  runs-bind {o} e f = record { answers = rw (e .answers, _>>=_) (ap (after []) (f .answers) ∙ after-nil o) }
+  runs-then e = record { answers = rw (e .answers, _>>=_) }
 
-  pub runs-bind-refused : {c x n p : ℕ} {log : List Visit} → Runs m c x (refused log n p) → Runs (m >>= k) c x (refused log n p)
+  runs-bind : {c x c′ x′ : ℕ} {a : A} {o : Out B} → Runs m c x (done [] a c′ x′) → Runs (k a) c′ x′ o → Runs (m >>= k) c x o
+  runs-bind {o} e f = record { answers = runs-then e .answers ∙ ap (after []) (f .answers) ∙ after-nil o }
+
+  pub runs-bind-refused : {c x : ℕ} {r : Refusal} {log : List Event} → Runs m c x (refused log r) → Runs (m >>= k) c x (refused log r)
   unfolding _>>=_
   runs-bind-refused e = record { answers = rw (e .answers, _>>=_) }
 
@@ -44,7 +48,7 @@ module _ (F : ℕ) where
   unfolding add-to-sum
   runs-add-to-sum n t = record { answers = rw (t, add-to-sum) }
 
-  runs-hold-over : {c x : ℕ} (n : ℕ) → leb (x + n) F ≡ false → Runs (add-to-sum F n) c x (refused [] 7 0)
+  runs-hold-over : {c x : ℕ} (n : ℕ) → leb (x + n) F ≡ false → Runs (add-to-sum F n) c x (refused [] over-long)
   unfolding add-to-sum
   runs-hold-over n t = record { answers = rw (t, add-to-sum) }
 
@@ -53,11 +57,11 @@ module _ (F : ℕ) where
     unfolding child _>>_
     runs-child {a} e t = runs-bind _ e (runs-bind _ (runs-add-to-sum (size a) t) runs-ret)
 
-    runs-child-over : {c x c′ x′ : ℕ} {a : A} → Runs m c x (done [] a c′ x′) → leb (x′ + size a) F ≡ false → Runs (child F size m) c x (refused [] 7 0)
+    runs-child-over : {c x c′ x′ : ℕ} {a : A} → Runs m c x (done [] a c′ x′) → leb (x′ + size a) F ≡ false → Runs (child F size m) c x (refused [] over-long)
     unfolding child _>>_
     runs-child-over {a} e t = runs-bind _ e (runs-bind-refused _ (runs-hold-over (size a) t))
 
-    runs-child-refused : {c x n p : ℕ} → Runs m c x (refused [] n p) → Runs (child F size m) c x (refused [] n p)
+    runs-child-refused : {c x : ℕ} {r : Refusal} → Runs m c x (refused [] r) → Runs (child F size m) c x (refused [] r)
     unfolding child
     runs-child-refused e = runs-bind-refused _ e
 
@@ -65,18 +69,18 @@ module _ (F : ℕ) where
     unfolding step fits after
     runs-step x e t = record { answers = rw (e .answers, t, step, fits) }
 
-    runs-step-over : {c c′ x′ : ℕ} {a : A} (x : ℕ) → Runs m c 0 (done [] a c′ x′) → leb (size a) F ≡ false → Runs (step F size m) c x (refused [] 7 0)
+    runs-step-over : {c c′ x′ : ℕ} {a : A} (x : ℕ) → Runs m c 0 (done [] a c′ x′) → leb (size a) F ≡ false → Runs (step F size m) c x (refused [] over-long)
     unfolding step fits after
     runs-step-over x e t = record { answers = rw (e .answers, t, step, fits) }
 
-    runs-step-refused : {c n p : ℕ} (x : ℕ) → Runs m c 0 (refused [] n p) → Runs (step F size m) c x (refused [] n p)
+    runs-step-refused : {c : ℕ} {r : Refusal} (x : ℕ) → Runs m c 0 (refused [] r) → Runs (step F size m) c x (refused [] r)
     unfolding step
     runs-step-refused x e = record { answers = rw (e .answers, step) }
 
   -- m answers as the finished record r alone does
   pub record Is (m : M Sexp) (r : Sexp) : Type 0 where
     pub yes-fits : (c x : ℕ) → leb (sexp-size r) F ≡ true → Runs m c x (done [] r c x)
-    pub no-fit : (c x : ℕ) → leb (sexp-size r) F ≡ false → Runs m c x (refused [] 7 0)
+    pub no-fit : (c x : ℕ) → leb (sexp-size r) F ≡ false → Runs m c x (refused [] over-long)
 
   bool-cases : {X : Type 0} (b : Bool) → (b ≡ true → X) → (b ≡ false → X) → X
   bool-cases true f g = f refl

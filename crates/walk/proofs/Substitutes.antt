@@ -4,62 +4,71 @@ use native.Mathlib.Omega.{arith}
 use Prim.Native.Nat.{ℕ, _+_, _-_, _≤_, _<_}
 use lib.ListN.{length, take, drop, length-append, length-drop}
 use lib.Seq.{take-all, length-take-le, take-take}
-use Rattle.names.specs.Maps.{NameMap, renamed, map-bytes}
+use Rattle.names.specs.Maps.{NameMap, renamed, map-bytes, MapOf}
 use Rattle.names.specs.Names.{Bytes, name-field}
 use Rattle.names.specs.Segments.{At, Filled}
 use Rattle.names.proofs.Frames.{same-refl, same-wider, filled-at, copied-at}
 use Rattle.names.proofs.Parts.{part}
-use Rattle.names.proofs.Places.{at-whole, at-is}
+use Rattle.names.proofs.Places.{at-whole, at-own, at-is}
 use Rattle.names.proofs.Segments.{filled-then}
 use Rattle.records.specs.Answer.{Gives, gave, refused}
-use Rattle.records.specs.Records.{Sexp, SN, SC, SI, SQ, SA, sexp-bytes}
-use Rattle.records.specs.Valid.{SexpFields}
-use Rattle.records.proofs.AnySexp.{index-of, sexp-index}
+use Rattle.records.specs.Records.{head-width, Sexp, SA, sexp-bytes}
+use Rattle.records.proofs.AnySexp.{bytes-are}
 use Rattle.records.specs.declared.Step.{Step}
 use Rattle.records.specs.declared.Step.the-variants.{Done, Refused}
-use Rattle.records.specs.Views.{SeesSexp}
+use Rattle.records.specs.Views.{SexpAt, nil-at, pair-at, integer-at, text-at, atom-at, SeesSexp}
+use Rattle.records.specs.declared.NameView.{NameView}
 use Rattle.records.specs.declared.SexpView.{SexpView}
-use Rattle.walk.specs.Arena.{MapAt, fitting, Substitutes, Kept, Measures, AtomAtStart, head-width, named}
+use Rattle.records.specs.declared.SexpView.the-variants.{Atom}
+use Rattle.walk.specs.Arena.{MapAt, Says, fitting, Substitutes, as-bytes, KeepsBytes, named}
+use Rattle.walk.specs.Steps.{over-long}
 use Rattle.walk.specs.Inventing.{atom-size}
 use Rattle.walk.specs.RenameInCons.{rename-atom}
-use Rattle.walk.proofs.Fits.{done-is, fitting-fits, fitting-long}
+use Rattle.walk.specs.declared.Task.{Task}
+use Rattle.walk.proofs.Fits.{done-is, fitting-fits, fitting-long, same-bytes}
 use Rattle.names.proofs.Fields.{name-field-length}
-use Rattle.walk.proofs.Views.{Atom, atom}
+use Rattle.walk.proofs.Views.{NoAtom, AtomAt, atom}
 
--- a record kept
-pub kept : {A : Type 0} (bytes : A → Bytes) {xs ys : Bytes} {q n f c : ℕ} → Filled xs ys q (drop 0 xs) n → n ≤ f → q + f ≤ length xs
-    → Kept bytes xs ys q n f c (Done n n c)
-kept bytes {q = q} {n} {f} {c} s le fit =
+-- the first n bytes kept
+pub bytes-kept : {old new : Bytes} {n : ℕ} {t : Task} → Filled old new (t .free) (drop 0 old) n → n ≤ t .f → n ≤ t .free → t .free + t .f ≤ length old
+    → KeepsBytes old new n t (Done n n (t .counter))
+bytes-kept {old} {n = n} {t} w le low fit =
+    let l : length (take n old) ≡ n = length-take-le n old (omega arith) in
+    let out = copied-at 0 (t .free) w (omega arith) (at-own old 0 n (omega arith)) (omega arith) (omega arith) (omega arith) in
     record {
-      frame = same-wider q (q + f) (omega arith) (omega arith) (s .frame);
-      says = λ t a e. let out = copied-at 0 q s (omega arith) a (omega arith) (omega arith) (omega arith) in
-          gave t c (fitting-fits bytes f c t (omega arith)) (done-is e e refl) out;
+      frame = same-wider (t .free) (t .free + t .f) (omega arith) (omega arith) (w .frame);
+      says = gave (take n old) (t .counter) (fitting-fits as-bytes (t .f) (t .counter) (take n old) (omega arith)) (done-is refl (sym l) refl) out;
     }
 
-pub kept-long : {A : Type 0} (bytes : A → Bytes) {xs : Bytes} {q n f c : ℕ} → f < n → Kept bytes xs xs q n f c (Refused 7 0)
-kept-long bytes {f = f} {c} lt = record { frame = same-refl; says = λ t a e. refused 7 0 (fitting-long bytes f c t (omega arith)) refl }
+pub bytes-over-long : {old : Bytes} {n : ℕ} {t : Task} {r : Step} → r ≡ Refused over-long → t .f < n → n ≤ length old → KeepsBytes old old n t r
+bytes-over-long {old} {n} {t} is lt low =
+    let l : length (take n old) ≡ n = length-take-le n old low in
+    record { frame = same-refl; says = refused over-long (fitting-long as-bytes (t .f) (t .counter) (take n old) (omega arith)) is }
 
--- a record kept, where the rule keeps every record that stands there
-pub keeps : {rule : NameMap → Sexp → Sexp} {old new : Bytes} {free n len f c : ℕ} {r : Step} → Measures old n → Kept sexp-bytes old new free n f c r
-    → ((m : NameMap) (t : Sexp) → At old 0 (sexp-bytes t) → SexpFields t → rule m t ≡ t) → Substitutes rule old new free len f c r
-keeps {new = new} {free} {f = f} {c} {r} x k h m at =
+-- of every kind of record: they are a tree that the rule keeps
+pub trees-kept : {A : Type 0} (bytes : A → Bytes) {Good : A → Type 0} (rule : NameMap → A → A) {old new : Bytes} {n : ℕ} {t : Task} {r : Step} → KeepsBytes old new n t r
+    → ((m : NameMap) (a : A) → At old 0 (bytes a) → Good a → (n ≡ length (bytes a)) × (rule m a ≡ a))
+    → Says bytes Good bytes (λ m a. fitting bytes (t .f) (t .counter) (rule m a)) old new t r
+trees-kept {A} bytes rule {old} {new} {n} {t} {r} k h =
     record {
       frame = k .frame;
-      says = λ t a b w. let P : Sexp → Type 0 = λ u. Gives sexp-bytes new free (length (sexp-bytes t)) (fitting sexp-bytes f c u) r in
-          subst P (sym (h m t a w)) (k .says t a (x .measures t w a));
+      says = λ m map a there below good.
+          let x = h m a there good in
+          let f = t .f in
+          let c = t .counter in
+          let e : take n old ≡ bytes a = at-is 0 n refl (x .0) there in
+          let g = subst (λ (i : ℕ). Gives bytes new (t .free) i (fitting bytes f c a) r) (x .0) (same-bytes as-bytes bytes f c (take n old) a e (k .says)) in
+          subst (λ (u : A). Gives bytes new (t .free) (length (bytes a)) (fitting bytes f c u) r) (sym (x .1)) g;
     }
 
 -- the atom alone goes by the map
-pub others-kept : {s : Bytes} (m : NameMap) → (AtomAtStart s → ⊥) → (t : Sexp) → At s 0 (sexp-bytes t) → rename-atom m t ≡ t
+pub others-kept : {s : Bytes} {v : SexpView} {t : Sexp} (m : NameMap) → NoAtom v → SexpAt s v t → rename-atom m t ≡ t
 unfolding rename-atom
-others-kept m q t a = go t (λ i. q (i ∙ sym (index-of t a)))
-  where
-    go : (t : Sexp) → (4 ≡ sexp-index t → ⊥) → rename-atom m t ≡ t
-    go (SN l) f = refl
-    go (SC l h t) f = refl
-    go (SI l v) f = refl
-    go (SQ l b n) f = refl
-    go (SA l n) f = absurd (f refl)
+others-kept m q (nil-at e) = refl
+others-kept m q (pair-at k e) = refl
+others-kept m q (integer-at k) = refl
+others-kept m q (text-at k) = refl
+others-kept m q (atom-at {v = n} k) = absurd (q n refl)
 
 pub named-length : (s n : Bytes) → head-width ≤ length s → length (named s n) ≡ atom-size (length n)
 named-length s n le = omega (arith, length-append (take head-width s) (name-field n), length-take-le head-width s le, name-field-length n)
@@ -74,13 +83,16 @@ written-atom n {xs} {a} {free = free} f g e fit le =
     filled-then copied g (omega arith) fit
 
 -- the part lent for the map is the map
-pub map-part : {mem : Bytes} {len : ℕ} {m : NameMap} → MapAt mem len m → part mem (length mem - len) (length mem - (length mem - len)) ≡ map-bytes m
+map-part : {mem : Bytes} {len : ℕ} {m : NameMap} → MapAt mem len m → part mem (length mem - len) (length mem - (length mem - len)) ≡ map-bytes m
 map-part {mem} {len} at =
     let top = length mem - len in
     take-all (length mem - top) (drop top mem) (omega (arith, length-drop top mem)) ∙ at .there
 
+pub map-lent : {mem : Bytes} {len : ℕ} {m : NameMap} → MapAt mem len m → MapOf (part mem (length mem - len) (length mem - (length mem - len))) m
+map-lent at = record { is = map-part at; limited = at .limited }
+
 -- what is made of an SA
-module _ {mem : Bytes} {v : SexpView} {t : Sexp} (m : NameMap) (k : Atom mem v t) where
+module _ {mem : Bytes} {v : NameView} {t : Sexp} (m : NameMap) (k : AtomAt mem v t) where
   abbrev result : Sexp
   result = SA (k .l) (renamed m (k .n))
 
@@ -89,36 +101,36 @@ module _ {mem : Bytes} {v : SexpView} {t : Sexp} (m : NameMap) (k : Atom mem v t
   renames = ap (rename-atom m) (k .is)
 
 -- the name that was found is the one in it
-module _ {mem found : Bytes} {v : SexpView} {len : ℕ}
-    (look : (m : NameMap) → part mem (length mem - len) (length mem - (length mem - len)) ≡ map-bytes m
+module _ (t : Task) {mem found : Bytes} {v : NameView}
+    (look : (m : NameMap) → part mem (length mem - t .map) (length mem - (length mem - t .map)) ≡ map-bytes m
     → found ≡ renamed m (part mem (v .start) (v .end - v .start))) where
-  found-name : {t : Sexp} {m : NameMap} → MapAt mem len m → (k : Atom mem v t) → found ≡ renamed m (k .n)
-  found-name {m = m} at k = look m (map-part at) ∙ ap (renamed m) (at-is (v .start) (v .end - v .start) refl (omega (arith, k .ends)) (k .bytes))
+  found-name : {s : Sexp} {m : NameMap} → MapAt mem (t .map) m → (k : AtomAt mem v s) → found ≡ renamed m (k .n)
+  found-name {m = m} at k = look m (map-part at) ∙ ap (renamed m) (bytes-are (k .name))
 
-  module _ (q : AtomAtStart mem) (x : SeesSexp mem v) {free f : ℕ} (c : ℕ) where
-    pub atom-long : f < atom-size (length found) → Substitutes rename-atom mem mem free len f c (Refused 7 0)
-    atom-long lt m at =
+  module _ (x : SeesSexp mem (Atom v)) where
+    pub atom-long : {r : Step} → r ≡ Refused over-long → t .f < atom-size (length found) → Substitutes rename-atom mem mem t r
+    atom-long is lt =
         record {
           frame = same-refl;
-          says = λ t a b w.
-              let k = atom q x t w a in
+          says = λ m at s a b w.
+              let k = atom x s w a in
               let l = ap length (found-name at k) in
-              let long = fitting-long sexp-bytes f c (result m k) (omega (arith, k .size (renamed m (k .n)))) in
-              refused 7 0 (ap (fitting sexp-bytes f c) (renames m k) ∙ long) refl;
+              let long = fitting-long sexp-bytes (t .f) (t .counter) (result m k) (omega (arith, k .size (renamed m (k .n)))) in
+              refused over-long (ap (fitting sexp-bytes (t .f) (t .counter)) (renames m k) ∙ long) is;
         }
 
-    pub atom-fits : {new : Bytes} → atom-size (length found) ≤ f → free + f ≤ length mem → Filled mem new free (named mem found) (length (named mem found))
-        → length (named mem found) ≡ atom-size (length found) → Substitutes rename-atom mem new free len f c (Done (v .end) (atom-size (length found)) c)
-    atom-fits {new} le fit w sz m at =
+    pub atom-fits : {new : Bytes} → atom-size (length found) ≤ t .f → t .free + t .f ≤ length mem → Filled mem new (t .free) (named mem found) (length (named mem found))
+        → length (named mem found) ≡ atom-size (length found) → Substitutes rename-atom mem new t (Done (v .end) (atom-size (length found)) (t .counter))
+    atom-fits {new} le fit w sz =
         record {
-          frame = same-wider free (free + f) (omega arith) (omega arith) (w .frame);
-          says = λ t a b fine.
-              let k = atom q x t fine a in
+          frame = same-wider (t .free) (t .free + t .f) (omega arith) (omega arith) (w .frame);
+          says = λ m at s a b fine.
+              let k = atom x s fine a in
               let e = found-name at k in
               let l = ap length e in
               let n = k .size (renamed m (k .n)) in
-              let there = filled-at free w (omega arith) (at-whole (named mem found)) (omega arith) (omega arith) in
+              let there = filled-at (t .free) w (omega arith) (at-whole (named mem found)) (omega arith) (omega arith) in
               let bytes = k .other (renamed m (k .n)) ∙ ap (named mem) (sym e) in
-              gave (result m k) c (ap (fitting sexp-bytes f c) (renames m k) ∙ fitting-fits sexp-bytes f c (result m k) (omega arith))
-              (done-is (k .whole) (omega arith) refl) (subst (At new free) (sym bytes) there);
+              gave (result m k) (t .counter) (ap (fitting sexp-bytes (t .f) (t .counter)) (renames m k) ∙ fitting-fits sexp-bytes (t .f) (t .counter) (result m k) (omega arith))
+              (done-is (k .name .past) (omega arith) refl) (subst (At new (t .free)) (sym bytes) there);
         }

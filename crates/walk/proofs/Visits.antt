@@ -4,25 +4,28 @@ use mathlib.Core.Logic.{_↔_, _⊎_, inl, inr}
 use mathlib.Core.Bool.{Bool, true, false}
 use mathlib.Core.List.{List, [], _∷_, _++_, map, reverseAux, append-assoc}
 use mathlib.Core.Option.{Option, none, some}
-use Prim.Native.Nat.{ℕ, zero, suc, _+_, _-_, _≤_}
+use Prim.Native.Nat.{ℕ, zero, suc, _+_, _-_, _≤_, _<_}
 use native.Mathlib.Omega.{arith}
 use lib.Dec.{leb}
 use lib.ListN.{length, getD, length-map}
 use Rattle.names.specs.Names.{Bytes, ascii, same, name-limit, gensym}
 use Rattle.names.specs.Maps.{NameMap}
+use Rattle.names.specs.declared.Refusal.{Refusal}
 use Rattle.records.specs.Limits.{level-limit}
-use Rattle.records.specs.Records.{Loc, loc-number, Sexp, SN, SC, SI, SQ, SA, Parallel, Sequential, Assign, Pattern, Name, Complex, Body, BL, BQ, BV, BC, BM, BF, Bodies, []ᵇ, _∷ᵇ_, Tail, no-tail, tail, Binding, BB, Bindings, Helper, HC, HM, HD, HN, HR, Helpers, []ʰ, _∷ʰ_, Form, CF, to-bindings, list-of}
+use Rattle.records.specs.Records.{Loc, Sexp, SN, SC, SI, SQ, SA, Parallel, Sequential, Assign, Pattern, Name, Complex, Body, BL, BQ, BV, BC, BM, BF, Bodies, []ᵇ, _∷ᵇ_, Tail, no-tail, tail, Binding, BB, Bindings, Helper, HC, HM, HD, HN, HR, Helpers, []ʰ, _∷ʰ_, Form, CF, to-bindings, list-of}
+use Rattle.records.proofs.Complete.{bindings-same}
 use Rattle.ordering.specs.Toposort.{Outcome, ordered, deadlock}
 use Rattle.ordering.specs.Lawful.{Full}
 use Rattle.ordering.specs.Words.{item, items, toposort-assign-bindings}
 use Rattle.ordering.proofs.Toposort.{sound, sound-length, complete, found}
 use Rattle.walk.proofs.All.{All, all-none, all-cons, all-append, all-map}
+use Rattle.walk.proofs.Reached.{visits-append, all-visits}
 use Rattle.walk.proofs.Fuel.{agreed, less-rename-assign-binding, less-walk}
-use Rattle.walk.specs.Assigns.{HasOrder, Made, made-none, made-next, Finished}
-use Rattle.walk.specs.Steps.{M, Out, done, refused, Visit, ret, refuse, out-of-fuel, _>>=_, _>>_, after, step, child, further, add-to-sum, take-from-sum, fits, body-size}
-use Rattle.walk.specs.Invent.{draw, invent-new-names-sexp, rename-in-cons-step}
+use Rattle.walk.specs.Assigns.{HasOrder, Makes, makes-none, makes-next, Finished}
+use Rattle.walk.specs.Steps.{M, Out, Event, reached, made, done, refused, over-long, Visit, visits, ret, refuse, out-of-fuel, _>>=_, _>>_, after, step, child, further, add-to-sum, take-from-sum, fits, body-size}
+use Rattle.walk.specs.Invent.{name-too-long, draw, invent-new-names-sexp, rename-in-cons-step}
 use Rattle.walk.specs.Patterns.{make-binding-unique, make-bindings-unique}
-use Rattle.walk.specs.Bodyforms.{each-body, call-tail, each-binding-body, Rules, args-then-in, rename-args-let, rename-args-desugared, rename-args-sequential, rename-assign-binding, rename-assign-bindings, rename-args-ordered, rename-args-assign, rename-args-bodyform, in-elements, rename-in-bodyform, body-rules, walk, log-assign, logged, no-binding}
+use Rattle.walk.specs.Bodyforms.{each-body, call-tail, each-binding-body, Rules, args-then-in, rename-args-let, rename-args-desugared, rename-args-sequential, rename-assign-binding, rename-assign-bindings, rename-args-ordered, rename-args-assign, rename-args-bodyform, in-elements, rename-in-bodyform, body-rules, walk, deadlocked, visit, log-assign, logged, no-binding, rename-in-quoted, rename-in-value}
 use Rattle.walk.specs.Helperforms.{FormRules, each-helper, further-helpers, rename-args-helperform, rename-in-helperform, rename-args-compileform, rename-in-compileform, rename-children-compileform, form-rules, form-walk, whole-walk, children-walk, helper-walk}
 
 -- what a finished `m >>= k` went through
@@ -30,27 +33,27 @@ pub record Split {A B : Type 0} (m : M A) (k : A → M B) (c x : ℕ) (b : B) (c
   pub value : A
   pub counter : ℕ
   pub sum : ℕ
-  pub log₁ : List Visit
-  pub log₂ : List Visit
+  pub log₁ : List Event
+  pub log₂ : List Event
   pub first : m c x ≡ done log₁ value counter sum
   pub second : k value counter sum ≡ done log₂ b c′ x′
 
-not-done : {A : Type 0} {log log′ : List Visit} {n p : ℕ} {a : A} {c x : ℕ} → _≡_ {A = Out A} (refused log n p) (done log′ a c x) → ⊥
+not-done : {A : Type 0} {log log′ : List Event} {r : Refusal} {a : A} {c x : ℕ} → _≡_ {A = Out A} (refused log r) (done log′ a c x) → ⊥
 not-done e = let z : _≡_ {A = ℕ} 0 1 = cc in omega arith
 
-split : {A B : Type 0} (m : M A) (k : A → M B) (c x : ℕ) {log : List Visit} {b : B} {c′ x′ : ℕ} → (m >>= k) c x ≡ done log b c′ x′ → Split m k c x b c′ x′
+split : {A B : Type 0} (m : M A) (k : A → M B) (c x : ℕ) {log : List Event} {b : B} {c′ x′ : ℕ} → (m >>= k) c x ≡ done log b c′ x′ → Split m k c x b c′ x′
 unfolding _>>=_ after
 split {A} {B} m k c x {log} {b} {c′} {x′} h = go (m c x) refl h
   where
-    go₂ : (log₁ : List Visit) (a : A) (c₁ x₁ : ℕ) → m c x ≡ done log₁ a c₁ x₁ → (o : Out B) → k a c₁ x₁ ≡ o → after log₁ o ≡ done log b c′ x′ → Split m k c x b c′ x′
+    go₂ : (log₁ : List Event) (a : A) (c₁ x₁ : ℕ) → m c x ≡ done log₁ a c₁ x₁ → (o : Out B) → k a c₁ x₁ ≡ o → after log₁ o ≡ done log b c′ x′ → Split m k c x b c′ x′
     go₂ log₁ a c₁ x₁ e (done log₂ b₂ c₂ x₂) f q = record { value = a; counter = c₁; sum = x₁; log₁ = log₁; log₂ = log₂; first = e; second = cc (f, q) }
-    go₂ log₁ a c₁ x₁ e (refused log₂ n p) f q = absurd (not-done q)
+    go₂ log₁ a c₁ x₁ e (refused log₂ r) f q = absurd (not-done q)
 
-    go : (o : Out A) → m c x ≡ o → _≡_ {A = Out B} (elim o [ done log₁ a c₁ x₁ ↦ after log₁ (k a c₁ x₁) | refused log₁ n p ↦ refused log₁ n p ]) (done log b c′ x′) → Split m k c x b c′ x′
+    go : (o : Out A) → m c x ≡ o → _≡_ {A = Out B} (elim o [ done log₁ a c₁ x₁ ↦ after log₁ (k a c₁ x₁) | refused log₁ r ↦ refused log₁ r ]) (done log b c′ x′) → Split m k c x b c′ x′
     go (done log₁ a c₁ x₁) e q = go₂ log₁ a c₁ x₁ e (k a c₁ x₁) refl q
-    go (refused log₁ n p) e q = absurd (not-done q)
+    go (refused log₁ r) e q = absurd (not-done q)
 
-same-value : {A : Type 0} {log log′ : List Visit} {a b : A} {c c′ x x′ : ℕ} → _≡_ {A = Out A} (done log a c x) (done log′ b c′ x′) → a ≡ b
+same-value : {A : Type 0} {log log′ : List Event} {a b : A} {c c′ x x′ : ℕ} → _≡_ {A = Out A} (done log a c x) (done log′ b c′ x′) → a ≡ b
 same-value e = cc
 
 not-some : {A : Type 0} {a : A} → _≡_ {A = Option A} none (some a) → ⊥
@@ -73,9 +76,9 @@ module _ (bs : List Binding) where
   unfolding toposort-assign-bindings
   no-order l q f = complete (items bs) l q (f .0) (f .1)
 
-  pub ordered-exactly : ((is : List ℕ) × (toposort-assign-bindings bs ≡ ordered is)) ↔ ((is : List ℕ) × Full (items bs) is)
+  pub ordered-exactly : ((is : List ℕ) × (toposort-assign-bindings bs ≡ ordered is) × Full (items bs) is) ↔ ((is : List ℕ) × Full (items bs) is)
   unfolding toposort-assign-bindings
-  ordered-exactly = found (items bs)
+  ordered-exactly = (λ o. (o .0, o .2), λ f. let o = found (items bs) .1 f in (o .0, o .1, sound (items bs) (o .0) (o .1)))
 
 module _ (F : ℕ) where
   abbrev pub Good : Visit → Type 0
@@ -89,47 +92,45 @@ module _ (F : ℕ) where
     pub is-back : e .back ≡ some back
 
   -- a refusal at the last assign, which has no order
-  pub record Deadlocked (log : List Visit) (n p : ℕ) : Type 0 where
+  pub record Deadlocked (list : List Visit) (r : Refusal) : Type 0 where
     pub earlier : List Visit
     pub last : Visit
-    pub ends : log ≡ earlier ++ (last ∷ [])
+    pub ends : list ≡ earlier ++ (last ∷ [])
     pub before : All HasOrder earlier
     pub none-there : ¬ HasOrder last
-    pub number : n ≡ 5
-    pub place : p ≡ loc-number (last .loc)
+    pub refusal : r ≡ deadlocked (last .loc)
 
   -- another refusal
-  pub record Stopped (log : List Visit) (n : ℕ) : Type 0 where
-    pub all-ordered : All HasOrder log
-    pub not-5 : n ≡ 5 → ⊥
-    pub not-0 : n ≡ 0 → ⊥
+  pub record Stopped (list : List Visit) (r : Refusal) : Type 0 where
+    pub all-ordered : All HasOrder list
+    pub late : 5 < r .number
+    pub not-8 : r .number ≡ 8 → ⊥
 
-  abbrev pub Ends : List Visit → ℕ → ℕ → Type 0
-  Ends log n p = Deadlocked log n p ⊎ Stopped log n
+  abbrev pub Ends : List Visit → Refusal → Type 0
+  Ends list r = Deadlocked list r ⊎ Stopped list r
 
   abbrev pub Fine : {A : Type 0} → Out A → Type 0
-  Fine (done log a c x) = All Done log
-  Fine (refused log n p) = All Good log × Ends log n p
+  Fine (done log a c x) = All Done (visits log)
+  Fine (refused log r) = All Good (visits log) × Ends (visits log) r
 
   pub record Sound {A : Type 0} (m : M A) : Type 0 where
     pub fine : (c x : ℕ) → Fine (m c x)
 
-  later : {log log′ : List Visit} {n p : ℕ} → All HasOrder log → Ends log′ n p → Ends (log ++ log′) n p
-  later {log} a (inl d) = inl (record {
-    earlier = log ++ d .earlier;
+  later : {list list′ : List Visit} {r : Refusal} → All HasOrder list → Ends list′ r → Ends (list ++ list′) r
+  later {list} a (inl d) = inl (record {
+    earlier = list ++ d .earlier;
     last = d .last;
-    ends = ap (λ (r : List Visit). log ++ r) (d .ends) ∙ sym (append-assoc log (d .earlier) (d .last ∷ []));
+    ends = ap (λ (l : List Visit). list ++ l) (d .ends) ∙ sym (append-assoc list (d .earlier) (d .last ∷ []));
     before = all-append a (d .before);
     none-there = d .none-there;
-    number = d .number;
-    place = d .place;
+    refusal = d .refusal;
   })
-  later a (inr s) = inr (record { all-ordered = all-append a (s .all-ordered); not-5 = s .not-5; not-0 = s .not-0 })
+  later a (inr s) = inr (record { all-ordered = all-append a (s .all-ordered); late = s .late; not-8 = s .not-8 })
 
-  fine-after : {A : Type 0} {log : List Visit} (o : Out A) → All Done log → Fine o → Fine (after log o)
+  fine-after : {A : Type 0} (log : List Event) (o : Out A) → All Done (visits log) → Fine o → Fine (after log o)
   unfolding after
-  fine-after (done log′ a c x) g f = all-append g f
-  fine-after {log} (refused log′ n p) g f = (all-append (all-map (λ e d. d .good) g) (f .0), later (all-map (λ e d. d .order) g) (f .1))
+  fine-after log (done log′ a c x) g f = all-visits log log′ g f
+  fine-after log (refused log′ r) g f = (all-visits log log′ (all-map (λ e d. d .good) g) (f .0), rw (visits-append log log′) (later (all-map (λ e d. d .order) g) (f .1)))
 
   sound-ret : {A : Type 0} (a : A) → Sound (ret a)
   unfolding ret
@@ -139,15 +140,15 @@ module _ (F : ℕ) where
   unfolding _>>=_
   sound-bind {A} {B} {m} {k} s t = record { fine = λ c x. go (m c x) (s .fine c x) }
     where
-      go : (o : Out A) → Fine o → Fine {A = B} (elim o [ done log a c′ x′ ↦ after log (k a c′ x′) | refused log n p ↦ refused log n p ])
-      go (done log a c′ x′) f = fine-after (k a c′ x′) f (t a .fine c′ x′)
-      go (refused log n p) f = f
+      go : (o : Out A) → Fine o → Fine {A = B} (elim o [ done log a c′ x′ ↦ after log (k a c′ x′) | refused log r ↦ refused log r ])
+      go (done log a c′ x′) f = fine-after log (k a c′ x′) f (t a .fine c′ x′)
+      go (refused log r) f = f
 
   -- a refusal that is not 5
-  other : {n p : ℕ} → (n ≡ 5 → ⊥) → (n ≡ 0 → ⊥) → All Good [] × Ends [] n p
-  other h z = (all-none, inr (record { all-ordered = all-none; not-5 = h; not-0 = z }))
+  other : {r : Refusal} → 5 < r .number → (r .number ≡ 8 → ⊥) → All Good [] × Ends [] r
+  other h z = (all-none, inr (record { all-ordered = all-none; late = h; not-8 = z }))
 
-  sound-out : {A : Type 0} → Sound {A = A} (refuse out-of-fuel 0)
+  sound-out : {A : Type 0} → Sound {A = A} (refuse out-of-fuel)
   unfolding refuse out-of-fuel
   sound-out = record { fine = λ c x. other (omega arith) (omega arith) }
 
@@ -155,7 +156,7 @@ module _ (F : ℕ) where
   unfolding add-to-sum
   sound-add-to-sum n = record { fine = λ c x. go c x (leb (x + n) F) }
     where
-      go : (c x : ℕ) (b : Bool) → Fine {A = Unit {0}} (elim b [ true ↦ done [] tt c (x + n) | false ↦ refused [] 7 0 ])
+      go : (c x : ℕ) (b : Bool) → Fine {A = Unit {0}} (elim b [ true ↦ done [] tt c (x + n) | false ↦ refused [] over-long ])
       go c x true = all-none
       go c x false = other (omega arith) (omega arith)
 
@@ -168,7 +169,7 @@ module _ (F : ℕ) where
     unfolding fits
     fine-fits a c x = go (leb (size a) F)
       where
-        go : (b : Bool) → Fine {A = A} (elim b [ true ↦ done [] a c x | false ↦ refused [] 7 0 ])
+        go : (b : Bool) → Fine {A = A} (elim b [ true ↦ done [] a c x | false ↦ refused [] over-long ])
         go true = all-none
         go false = other (omega arith) (omega arith)
 
@@ -176,9 +177,9 @@ module _ (F : ℕ) where
     unfolding step
     sound-step {m} s = record { fine = λ c x. go x (m c 0) (s .fine c 0) }
       where
-        go : (x : ℕ) (o : Out A) → Fine o → Fine {A = A} (elim o [ done log a c′ x′ ↦ after log (fits F size a c′ x) | refused log n p ↦ refused log n p ])
-        go x (done log a c′ x′) f = fine-after (fits F size a c′ x) f (fine-fits a c′ x)
-        go x (refused log n p) f = f
+        go : (x : ℕ) (o : Out A) → Fine o → Fine {A = A} (elim o [ done log a c′ x′ ↦ after log (fits F size a c′ x) | refused log r ↦ refused log r ])
+        go x (done log a c′ x′) f = fine-after log (fits F size a c′ x) f (fine-fits a c′ x)
+        go x (refused log r) f = f
 
     sound-child : {m : M A} → Sound m → Sound (child F size m)
     unfolding child _>>_
@@ -192,7 +193,7 @@ module _ (F : ℕ) where
   unfolding draw
   sound-draw n = record { fine = λ c x. go c x (leb (length (gensym n c)) name-limit) }
     where
-      go : (c x : ℕ) (b : Bool) → Fine {A = Bytes} (elim b [ true ↦ done [] (gensym n c) (c + 1) x | false ↦ refused [] 6 0 ])
+      go : (c x : ℕ) (b : Bool) → Fine {A = Bytes} (elim b [ true ↦ done (made n (gensym n c) ∷ []) (gensym n c) (c + 1) x | false ↦ refused [] name-too-long ])
       go c x true = all-none
       go c x false = other (omega arith) (omega arith)
 
@@ -275,68 +276,85 @@ module _ (F : ℕ) where
     sound-rename-args-ordered l k h bs b is = sound-bind (sound-rename-assign-bindings bs is [] []) λ u. sound-bind (sound-args-then-in (u .0) b) λ b′. sound-ret _
 
   -- the bindings written, the last made first
-  pub record MadeList (m : NameMap) (c x : ℕ) (l w ws : List Binding) : Type 0 where
-    pub made : List Binding
-    pub each : Made F m c x l made
-    pub reversed : ws ≡ reverseAux made w
+  pub record MakesList (m : NameMap) (c x : ℕ) (l w ws : List Binding) : Type 0 where
+    pub bindings : List Binding
+    pub each : Makes F m c x l bindings
+    pub reversed : ws ≡ reverseAux bindings w
 
-  made-bindings : (fuel : ℕ) → fuel ≤ level-limit → (bs : List Binding) (is : List ℕ) (m : NameMap) (w : List Binding) (c x : ℕ) {log : List Visit} {v : NameMap × List Binding} {c′ x′ : ℕ}
-      → rename-assign-bindings F (walk F fuel) bs is m w c x ≡ done log v c′ x′ → MadeList m c x (map (λ i. getD bs i no-binding) is) w (v .1)
+  makes-bindings : (fuel : ℕ) → fuel ≤ level-limit → (bs : List Binding) (is : List ℕ) (m : NameMap) (w : List Binding) (c x : ℕ) {log : List Event} {v : NameMap × List Binding} {c′ x′ : ℕ}
+      → rename-assign-bindings F (walk F fuel) bs is m w c x ≡ done log v c′ x′ → MakesList m c x (map (λ i. getD bs i no-binding) is) w (v .1)
   unfolding rename-assign-bindings ret
-  made-bindings fuel le bs [] m w c x h = record { made = []; each = made-none; reversed = sym (ap (λ (v : NameMap × List Binding). v .1) (same-value h)) }
-  made-bindings fuel le bs (i ∷ is) m w c x h =
+  makes-bindings fuel le bs [] m w c x h = record { bindings = []; each = makes-none; reversed = sym (ap (λ (v : NameMap × List Binding). v .1) (same-value h)) }
+  makes-bindings fuel le bs (i ∷ is) m w c x h =
       let s = split (rename-assign-binding F (walk F fuel) m (getD bs i no-binding)) _ c x h in
-      let t = made-bindings fuel le bs is (s .value .0) (s .value .1 ∷ w) (s .counter) (s .sum) (s .second) in
-      record { made = s .value .1 ∷ t .made; each = made-next (agreed (less-rename-assign-binding F (less-walk F fuel level-limit le) m _) (s .first)) (t .each); reversed = t .reversed }
+      let t = makes-bindings fuel le bs is (s .value .0) (s .value .1 ∷ w) (s .counter) (s .sum) (s .second) in
+      record { bindings = s .value .1 ∷ t .bindings; each = makes-next (agreed (less-rename-assign-binding F (less-walk F fuel level-limit le) m _) (s .first)) (t .each); reversed = t .reversed }
 
-  made-length : {m : NameMap} {c x : ℕ} {l k : List Binding} → Made F m c x l k → length k ≡ length l
-  made-length made-none = refl
-  made-length (made-next e d) = ap suc (made-length d)
+  makes-length : {m : NameMap} {c x : ℕ} {l k : List Binding} → Makes F m c x l k → length k ≡ length l
+  makes-length makes-none = refl
+  makes-length (makes-next e d) = ap suc (makes-length d)
 
-  pub record Ended {A : Type 0} (m : M A) (c : ℕ) (a : A) (c′ : ℕ) : Type 0 where
-    pub log : List Visit
+  -- what a finished step went through; it ends so from any sum
+  pub record Ended {A : Type 0} (size : A → ℕ) (m : M A) (c : ℕ) (log : List Event) (a : A) (c′ : ℕ) : Type 0 where
+    pub inner : List Event
     pub sum : ℕ
-    pub ran : m c 0 ≡ done log a c′ sum
+    pub ran : m c 0 ≡ done inner a c′ sum
+    pub again : (x : ℕ) → step F size m c x ≡ done log a c′ x
 
-  ended : {A : Type 0} (size : A → ℕ) (m : M A) (c x : ℕ) {log : List Visit} {a : A} {c′ x′ : ℕ} → step F size m c x ≡ done log a c′ x′ → Ended m c a c′
+  ended : {A : Type 0} (size : A → ℕ) (m : M A) (c x : ℕ) {log : List Event} {a : A} {c′ x′ : ℕ} → step F size m c x ≡ done log a c′ x′ → Ended size m c log a c′
   unfolding step after fits
   ended {A} size m c x {log} {a} {c′} {x′} h = go (m c 0) refl h
     where
-      go₂ : (log₁ : List Visit) (b : A) (c₁ x₁ : ℕ) → m c 0 ≡ done log₁ b c₁ x₁ → (t : Bool)
-          → after log₁ (elim t as (λ _. Out A) [ true ↦ done [] b c₁ x | false ↦ refused [] 7 0 ]) ≡ done log a c′ x′ → Ended m c a c′
-      go₂ log₁ b c₁ x₁ e true q = record { log = log₁; sum = x₁; ran = cc (e, q) }
-      go₂ log₁ b c₁ x₁ e false q = absurd (not-done q)
+      go₂ : (log₁ : List Event) (b : A) (c₁ x₁ : ℕ) → m c 0 ≡ done log₁ b c₁ x₁ → (t : Bool) → leb (size b) F ≡ t
+          → after log₁ (elim t as (λ _. Out A) [ true ↦ done [] b c₁ x | false ↦ refused [] over-long ]) ≡ done log a c′ x′ → Ended size m c log a c′
+      go₂ log₁ b c₁ x₁ e true t q =
+          record { inner = log₁; sum = x₁; ran = cc (e, q); again = λ y. rw (e, t, step, fits) (cc) }
+      go₂ log₁ b c₁ x₁ e false t q = absurd (not-done q)
 
-      go : (o : Out A) → m c 0 ≡ o → _≡_ {A = Out A} (elim o [ done log₁ b c₁ x₁ ↦ after log₁ (fits F size b c₁ x) | refused log₁ n p ↦ refused log₁ n p ]) (done log a c′ x′) → Ended m c a c′
-      go (done log₁ b c₁ x₁) e q = go₂ log₁ b c₁ x₁ e (leb (size b) F) q
-      go (refused log₁ n p) e q = absurd (not-done q)
+      go : (o : Out A) → m c 0 ≡ o → _≡_ {A = Out A} (elim o [ done log₁ b c₁ x₁ ↦ after log₁ (fits F size b c₁ x) | refused log₁ r ↦ refused log₁ r ]) (done log a c′ x′) → Ended size m c log a c′
+      go (done log₁ b c₁ x₁) e q = go₂ log₁ b c₁ x₁ e (leb (size b) F) refl q
+      go (refused log₁ r) e q = absurd (not-done q)
 
-  module _ (fuel : ℕ) (le : fuel ≤ level-limit) (l : Loc) (k h : Bytes) (bs : Bindings) (b : Body) where
-    entry : ℕ → Option Body → Visit
-    entry c o = record { loc = l; keyword = k; hint = h; bindings = list-of bs; body = b; counter = c; back = o }
+  module _ (fuel : ℕ) (le : suc fuel ≤ level-limit) (l : Loc) (k h : Bytes) (bs : Bindings) (b : Body) where
+    abbrev entry : ℕ → Option Body → Visit
+    entry = visit l k h bs b
 
-    finished-assign : (is : List ℕ) → toposort-assign-bindings (list-of bs) ≡ ordered is → (c x : ℕ) {log : List Visit} {a : Body} {c′ x′ : ℕ}
+    -- Own of the assign, where its bindings have this order
+    own-ordered : (is : List ℕ) → toposort-assign-bindings (list-of bs) ≡ ordered is → (c x : ℕ)
+        → walk F (suc fuel) .args-bodyform (BL Assign l k h bs b) c x ≡ logged (entry c) (step F body-size (rename-args-ordered F (walk F fuel) l k h (list-of bs) b is) c x)
+    unfolding walk body-rules log-assign rename-args-bodyform rename-args-assign
+    own-ordered is q c x = rw (q, rename-args-assign)
+
+    -- with all the fuel
+    own-limit : (c x : ℕ) {log : List Event} {a : Body} {c′ x′ : ℕ} → walk F (suc fuel) .args-bodyform (BL Assign l k h bs b) c x ≡ done log a c′ x′
+        → walk F level-limit .args-bodyform (BL Assign l k h (to-bindings (list-of bs)) b) c x ≡ done log a c′ x′
+    own-limit c x e = rw (bindings-same bs) (agreed (less-walk F (suc fuel) level-limit le .args-bodyform (BL Assign l k h bs b)) e)
+
+    finished-assign : (is : List ℕ) → toposort-assign-bindings (list-of bs) ≡ ordered is → (c x : ℕ) {log : List Event} {a : Body} {c′ x′ : ℕ}
         → step F body-size (rename-args-ordered F (walk F fuel) l k h (list-of bs) b is) c x ≡ done log a c′ x′ → Finished F (entry c (some a)) a
-    unfolding rename-args-ordered ret entry
-    finished-assign is q c x e =
+    unfolding rename-args-ordered ret logged
+    finished-assign is q c x {log} {a} {c′} e =
         let n = ended body-size _ c x e in
         let s = split (rename-assign-bindings F (walk F fuel) (list-of bs) is [] []) _ c 0 (n .ran) in
         let t = split (args-then-in F (walk F fuel) (s .value .0) b) _ (s .counter) (s .sum) (s .second) in
-        let m = made-bindings fuel le (list-of bs) is [] [] c 0 (s .first) in
+        let m = makes-bindings fuel (omega arith) (list-of bs) is [] [] c 0 (s .first) in
         record {
           order = is;
           exact = q;
           full = full-order (list-of bs) is q;
-          made = m .made;
-          count = made-length (m .each) ∙ length-map is _ ∙ order-length (list-of bs) is q;
+          bindings = m .bindings;
+          count = makes-length (m .each) ∙ length-map is _ ∙ order-length (list-of bs) is q;
           renamed = m .each;
           body = t .value;
           written = sym (same-value (t .second)) ∙ ap (λ (w : List Binding). BL Assign l k h (to-bindings w) (t .value)) (m .reversed);
+          log = reached (entry c (some a)) ∷ log;
+          counter = c′;
+          given-back = λ y. own-limit c y (own-ordered is q c y ∙ ap (logged (entry c)) (n .again y));
         }
 
     sound-assign : ((b : Body) → Sound (walk F fuel .args-bodyform b)) → ((m : NameMap) (b : Body) → Sound (walk F fuel .in-bodyform m b))
         → Sound (log-assign (BL Assign l k h bs b) (step F body-size (rename-args-bodyform F (walk F fuel) (BL Assign l k h bs b))))
-    unfolding log-assign logged rename-args-bodyform rename-args-assign step refuse entry
+    unfolding log-assign logged rename-args-bodyform rename-args-assign step refuse
     sound-assign so si = record { fine = λ c x. go c x (toposort-assign-bindings (list-of bs)) refl }
       where
         unfinished : (c : ℕ) → Good (entry c none)
@@ -345,13 +363,13 @@ module _ (F : ℕ) where
         go₂ : (c x : ℕ) (is : List ℕ) → toposort-assign-bindings (list-of bs) ≡ ordered is → (o : Out Body) → step F body-size (rename-args-ordered F (walk F fuel) l k h (list-of bs) b is) c x ≡ o → Fine o → Fine (logged (entry c) o)
         go₂ c x is q (done log a c′ x′) e f =
             all-cons (record { good = λ back w. subst (Finished F (entry c (some a))) (same-some w) (finished-assign is q c x e); order = (is, full-order (list-of bs) is q); back = a; is-back = refl }) f
-        go₂ c x is q (refused log n p) e f = (all-cons (unfinished c) (f .0), later (all-cons (is, full-order (list-of bs) is q) all-none) (f .1))
+        go₂ c x is q (refused log r) e f = (all-cons (unfinished c) (f .0), later (all-cons (is, full-order (list-of bs) is q) all-none) (f .1))
 
         go : (c x : ℕ) (o : Outcome) → toposort-assign-bindings (list-of bs) ≡ o
-            → Fine (logged (entry c) (step F body-size (elim o as (λ _. M Body) [ deadlock _ ↦ refuse 5 (loc-number l) | ordered is ↦ rename-args-ordered F (walk F fuel) l k h (list-of bs) b is ]) c x))
+            → Fine (logged (entry c) (step F body-size (elim o as (λ _. M Body) [ deadlock _ ↦ refuse (deadlocked l) | ordered is ↦ rename-args-ordered F (walk F fuel) l k h (list-of bs) b is ]) c x))
         go c x (deadlock is) q = (
           all-cons (unfinished c) all-none,
-          inl (record { earlier = []; last = entry c none; ends = refl; before = all-none; none-there = no-order (list-of bs) is q; number = refl; place = refl }),
+          inl (record { earlier = []; last = entry c none; ends = refl; before = all-none; none-there = no-order (list-of bs) is q; refusal = refl }),
         )
         go c x (ordered is) q = go₂ c x is q _ refl (sound-step body-size (sound-rename-args-ordered (walk F fuel) so si l k h (list-of bs) b is) .fine c x)
 
@@ -359,7 +377,7 @@ module _ (F : ℕ) where
     pub args-bodyform : (b : Body) → Sound (r .args-bodyform b)
     pub in-bodyform : (m : NameMap) (b : Body) → Sound (r .in-bodyform m b)
 
-  module _ (fuel : ℕ) (le : fuel ≤ level-limit) (s : SoundRules (walk F fuel)) where
+  module _ (fuel : ℕ) (le : suc fuel ≤ level-limit) (s : SoundRules (walk F fuel)) where
     sound-args-step : (b : Body) → Sound (log-assign b (step F body-size (rename-args-bodyform F (walk F fuel) b)))
     unfolding log-assign rename-args-bodyform
     sound-args-step (BL Parallel l k h bs b) = sound-step _ (sound-rename-args-let _ (s .args-bodyform) (s .in-bodyform) l k h (list-of bs) b)
@@ -379,7 +397,7 @@ module _ (F : ℕ) where
         sound-bind (sound-child _ (s .in-bodyform m b)) λ b′. sound-bind (sound-further _ b′ (λ _. sound-ret _)) λ b″. sound-bind (sound-each-body (s .in-bodyform m) bs) λ bs′. sound-ret _
 
     sound-rename-in-bodyform : (m : NameMap) (b : Body) → Sound (rename-in-bodyform F (walk F fuel) m b)
-    unfolding rename-in-bodyform
+    unfolding rename-in-quoted rename-in-value rename-in-bodyform
     sound-rename-in-bodyform m (BL k l w h bs b) = sound-bind (sound-each-binding-body (s .in-bodyform m) (list-of bs)) λ bs′. sound-bind (sound-child _ (s .in-bodyform m b)) λ b′. sound-ret _
     sound-rename-in-bodyform m (BQ x) = sound-ret _
     sound-rename-in-bodyform m (BV x) = sound-ret _
@@ -392,9 +410,8 @@ module _ (F : ℕ) where
   unfolding walk body-rules
   sound-walk zero le = record { args-bodyform = λ b. sound-out; in-bodyform = λ m b. sound-out }
   sound-walk (suc fuel) le =
-      let below : fuel ≤ level-limit = omega arith in
-      let s = sound-walk fuel below in
-      record { args-bodyform = sound-args-step fuel below s; in-bodyform = λ m b. sound-step _ (sound-rename-in-bodyform fuel below s m b) }
+      let s = sound-walk fuel (omega arith) in
+      record { args-bodyform = sound-args-step fuel le s; in-bodyform = λ m b. sound-step _ (sound-rename-in-bodyform fuel le s m b) }
 
   module _ {f : Helper → M Helper} (s : (x : Helper) → Sound (f x)) where
     sound-each-helper : (xs : Helpers) → Sound (each-helper F f xs)

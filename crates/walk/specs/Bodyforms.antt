@@ -7,11 +7,13 @@ use Prim.Native.Nat.{ℕ, zero, suc}
 use lib.ListN.{getD}
 use Rattle.names.specs.Names.{Bytes}
 use Rattle.names.specs.Maps.{NameMap}
-use Rattle.records.specs.Records.{Loc, loc-number, SN, Parallel, Sequential, Assign, Name, Complex, Body, BL, BQ, BV, BC, BM, BF, Bodies, []ᵇ, _∷ᵇ_, Tail, no-tail, tail, Binding, BB, []ᵍ, _∷ᵍ_, to-bindings, list-of, byte}
+use Rattle.names.specs.Refusals.{refusing, place-at}
+use Rattle.names.specs.declared.Refusal.{Refusal}
+use Rattle.records.specs.Records.{Loc, loc-number, Sexp, SN, Parallel, Sequential, Assign, Name, Complex, Body, BL, BQ, BV, BC, BM, BF, Bodies, []ᵇ, _∷ᵇ_, Tail, no-tail, tail, Binding, BB, Bindings, []ᵍ, _∷ᵍ_, to-bindings, list-of, byte}
 use Rattle.ordering.specs.Toposort.{ordered, deadlock}
 use Rattle.ordering.specs.Words.{toposort-assign-bindings}
 use Rattle.walk.specs.RenameInCons.{rename-atom}
-use Rattle.walk.specs.Steps.{M, Out, done, refused, Visit, _>>=_, ret, refuse, out-of-fuel, sexp-size, body-size, step, child, further}
+use Rattle.walk.specs.Steps.{M, Out, done, refused, Visit, reached, _>>=_, ret, refuse, out-of-fuel, sexp-size, body-size, step, child, further}
 use Rattle.walk.specs.Invent.{invent-new-names-sexp, rename-in-cons-step}
 use Rattle.walk.specs.Patterns.{make-bindings-unique}
 
@@ -20,25 +22,41 @@ unfoldable pub desugar-sequential-let-bindings : List Binding → Body → Body
 desugar-sequential-let-bindings [] b = b
 desugar-sequential-let-bindings (BB l nl p e ∷ bs) b = BL Parallel l (byte 0) (byte 0) (BB l nl p e ∷ᵍ []ᵍ) (desugar-sequential-let-bindings bs b)
 
+-- the entry of an assign: its fields, the counter then, and the record given back if its use is finished
+abbrev pub visit : Loc → Bytes → Bytes → Bindings → Body → ℕ → Option Body → Visit
+visit l k h bs b c o = record { loc = l; keyword = k; hint = h; bindings = list-of bs; body = b; counter = c; back = o }
+
 -- a visit stands in the list before those that it leads to
 unfoldable pub logged : (Option Body → Visit) → Out Body → Out Body
-logged e (done log a c x) = done (e (some a) ∷ log) a c x
-logged e (refused log n p) = refused (e none ∷ log) n p
+logged e (done log a c x) = done (reached (e (some a)) ∷ log) a c x
+logged e (refused log r) = refused (reached (e none) ∷ log) r
 
 -- a use of `rename-args-bodyform` on this record, listed if it is an assign
 unfoldable pub log-assign : Body → M Body → M Body
 log-assign (BL Parallel l k h bs b) m = m
 log-assign (BL Sequential l k h bs b) m = m
-log-assign (BL Assign l k h bs b) m = λ c x. logged (λ o. record { loc = l; keyword = k; hint = h; bindings = list-of bs; body = b; counter = c; back = o }) (m c x)
+log-assign (BL Assign l k h bs b) m = λ c x. logged (visit l k h bs b c) (m c x)
 log-assign (BQ s) m = m
 log-assign (BV s) m = m
 log-assign (BC l bs t) m = m
 log-assign (BM l f) m = m
 log-assign (BF l k ca c a b) m = m
 
+-- 5: an assign with no order, its place the L
+abbrev pub deadlocked : Loc → Refusal
+deadlocked l = refusing 5 (place-at (loc-number l))
+
 -- what `getD` gives for an index past the last binding; no order has one
 unfoldable pub no-binding : Binding
 no-binding = BB [] [] (Name []) (BV (SN []))
+
+-- In-body of a BQ: an atom alone goes by the map
+unfoldable pub rename-in-quoted : NameMap → Sexp → M Body
+rename-in-quoted m s = ret (BQ (rename-atom m s))
+
+-- In-body of a BV: the same
+unfoldable pub rename-in-value : NameMap → Sexp → M Body
+rename-in-value m s = ret (BV (rename-atom m s))
 
 -- the two rules, on the records one level down
 pub record Rules : Type 0 where
@@ -81,12 +99,13 @@ module _ (F : ℕ) where
       b′ ← args-then-in m b
       ret (BL Parallel l k h (to-bindings bs″) b′)
 
-    -- Own of what a sequential let became, its inner lets one level down in r
+    -- Own of what a sequential let became. With bindings that is a parallel let, what it holds one level down in r; with none it is the body, which stands
+    -- one level below the let and is taken by r.
     unfoldable pub rename-args-desugared : List Binding → Body → M Body
     rename-args-desugared [] b = r .args-bodyform b
     rename-args-desugared (BB l nl p e ∷ bs) b = step F body-size (rename-args-let l (byte 0) (byte 0) (BB l nl p e ∷ []) (desugar-sequential-let-bindings bs b))
 
-    -- Own of a sequential let: of the desugared let
+    -- Own of a sequential let: the desugared let comes back, and Own takes it further (`sequential-own` of proofs/Sequential.antt)
     unfoldable pub rename-args-sequential : List Binding → Body → M Body
     rename-args-sequential bs b = child F body-size (ret (desugar-sequential-let-bindings bs b)) >>= λ d. further F body-size d (λ _. rename-args-desugared bs b)
 
@@ -116,7 +135,7 @@ module _ (F : ℕ) where
 
     -- Own of an assign: it is ordered first; 5 at a deadlock, with the assign's place
     unfoldable pub rename-args-assign : Loc → Bytes → Bytes → List Binding → Body → M Body
-    rename-args-assign l k h bs b = elim (toposort-assign-bindings bs) [ deadlock _ ↦ refuse 5 (loc-number l) | ordered is ↦ rename-args-ordered l k h bs b is ]
+    rename-args-assign l k h bs b = elim (toposort-assign-bindings bs) [ deadlock _ ↦ refuse (deadlocked l) | ordered is ↦ rename-args-ordered l k h bs b is ]
 
     -- Own
     unfoldable pub rename-args-bodyform : Body → M Body
@@ -151,8 +170,8 @@ module _ (F : ℕ) where
       bs′ ← each-binding-body (r .in-bodyform m) (list-of bs)
       b′ ← child F body-size (r .in-bodyform m b)
       ret (BL k l w h (to-bindings bs′) b′)
-    rename-in-bodyform m (BQ s) = ret (BQ (rename-atom m s))
-    rename-in-bodyform m (BV s) = ret (BV (rename-atom m s))
+    rename-in-bodyform m (BQ s) = rename-in-quoted m s
+    rename-in-bodyform m (BV s) = rename-in-value m s
     rename-in-bodyform m (BC l bs t) = do
       bs′ ← in-elements m bs
       t′ ← call-tail (r .in-bodyform m) t
@@ -173,10 +192,10 @@ module _ (F : ℕ) where
 
   -- the rules on records at most `fuel` deep
   unfoldable pub walk : ℕ → Rules
-  walk zero = record { args-bodyform = λ b. refuse out-of-fuel 0; in-bodyform = λ m b. refuse out-of-fuel 0 }
+  walk zero = record { args-bodyform = λ b. refuse out-of-fuel; in-bodyform = λ m b. refuse out-of-fuel }
   walk (suc fuel) = body-rules (walk fuel)
 
 -- unfolds with every definition of this file
 unfoldable pub computing-bodyforms : Unit {0}
-unfolding desugar-sequential-let-bindings logged log-assign no-binding each-body call-tail each-binding-body args-then-in rename-args-let rename-args-desugared rename-args-sequential rename-assign-binding rename-assign-bindings rename-args-ordered rename-args-assign rename-args-bodyform in-elements rename-in-bodyform body-rules walk
+unfolding desugar-sequential-let-bindings logged log-assign no-binding each-body call-tail each-binding-body args-then-in rename-args-let rename-args-desugared rename-args-sequential rename-assign-binding rename-assign-bindings rename-args-ordered rename-args-assign rename-args-bodyform in-elements rename-in-quoted rename-in-value rename-in-bodyform body-rules walk
 computing-bodyforms = tt

@@ -98,10 +98,10 @@ module _ (F : ℕ) where
   -- the rules on records at most `fuel` deep
   unfoldable pub form-walk : ℕ → FormRules
   form-walk zero = record {
-    args-helperform = λ x. refuse out-of-fuel 0;
-    in-helperform = λ m x. refuse out-of-fuel 0;
-    args-compileform = λ f. refuse out-of-fuel 0;
-    in-compileform = λ m f. refuse out-of-fuel 0;
+    args-helperform = λ x. refuse out-of-fuel;
+    in-helperform = λ m x. refuse out-of-fuel;
+    args-compileform = λ f. refuse out-of-fuel;
+    in-compileform = λ m f. refuse out-of-fuel;
   }
   form-walk (suc fuel) = form-rules (walk F fuel) (form-walk fuel)
 

@@ -7,13 +7,19 @@ use lib.Dec.{leb}
 use lib.ListN.{length}
 use Rattle.names.specs.Names.{Bytes, ascii, same, name-limit, gensym}
 use Rattle.names.specs.Maps.{NameMap}
+use Rattle.names.specs.Refusals.{placeless}
+use Rattle.names.specs.declared.Refusal.{Refusal}
 use Rattle.records.specs.Records.{Sexp, SN, SC, SI, SQ, SA}
 use Rattle.walk.specs.RenameInCons.{rename-in-cons}
-use Rattle.walk.specs.Steps.{M, done, refused, _>>=_, ret, sexp-size, step}
+use Rattle.walk.specs.Steps.{M, made, done, refused, _>>=_, ret, sexp-size, step}
+
+-- 6: a made name that is too long
+abbrev pub name-too-long : Refusal
+name-too-long = placeless 6
 
 -- `gensym` at the walk's counter; 6 where the made name is too long
 unfoldable pub draw : Bytes → M Bytes
-draw n c x = elim (leb (length (gensym n c)) name-limit) [ true ↦ done [] (gensym n c) (c + 1) x | false ↦ refused [] 6 0 ]
+draw n c x = elim (leb (length (gensym n c)) name-limit) [ true ↦ done (made n (gensym n c) ∷ []) (gensym n c) (c + 1) x | false ↦ refused [] name-too-long ]
 
 -- Invent (`invent_new_names_sexp`): each atom but `@` draws a number, head before tail, repeats too; the map grows by each, the newest first
 unfoldable pub invent-new-names-sexp : NameMap → Sexp → M NameMap

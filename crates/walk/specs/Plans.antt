@@ -1,6 +1,6 @@
 -- How an S record is substituted: what each plan of `plan_of` says of the record at the start.
 -- Assumes nothing.
-use mathlib.Core.Bool.{Bool, true, false, not}
+use mathlib.Core.Bool.{Bool, true, false}
 use mathlib.Core.Path.{_≡_}
 use mathlib.Core.Option.{none}
 use Prim.Native.Nat.{ℕ, _+_, _≤_, _<_}
@@ -9,31 +9,31 @@ use lib.ListN.{length}
 use Rattle.names.specs.Maps.{NameMap}
 use Rattle.names.specs.Names.{Bytes, ascii}
 use Rattle.names.specs.Segments.{At}
-use Rattle.records.specs.Records.{Loc, Sexp, SN, SC, sexp-bytes}
+use Rattle.records.specs.Records.{head-width, Loc, Sexp, SN, SC, sexp-bytes}
 use Rattle.records.specs.Sexps.{loc-of, nilp, is-atom, only}
-use Rattle.records.specs.Valid.{SexpFields}
-use Rattle.records.specs.Answer.{Answers}
-use Rattle.records.specs.declared.Step.{Step}
-use Rattle.walk.specs.Arena.{head-width, fitting}
+use Rattle.records.specs.Valid.{SexpFields, cons-depth}
 use Rattle.walk.specs.RenameInCons.{rename-in-cons, rename-in-qq, rename-atom}
 use Rattle.walk.specs.declared.Plan.{Plan}
 use Rattle.walk.specs.declared.Plan.the-variants.{Kept, ByMap, Requoted, Alone, Parts}
+use Rattle.walk.specs.declared.Quasi.{Quasi}
+use Rattle.walk.specs.declared.Quasi.the-variants.{Ignored, Outside, Inside}
 
--- the rule inside `qq`, or the one outside
-abbrev pub substitution : Bool → Bool → NameMap → Sexp → Sexp
-substitution true qq = rename-in-qq qq
-substitution false qq = rename-in-cons qq
+-- the rule for each place of a `qq`
+abbrev pub substitution : Quasi → NameMap → Sexp → Sexp
+substitution Ignored = rename-in-cons false
+substitution Outside = rename-in-cons true
+substitution Inside = rename-in-qq true
 
--- an SC whose parts go on
-pub record Goes (inside qq : Bool) (t : Sexp) : Type 0 where
+-- an SC whose parts go on by the rule
+pub record Goes (rule : NameMap → Sexp → Sexp) (t : Sexp) : Type 0 where
   pub l : Loc
   pub h : Sexp
   pub u : Sexp
   pub is : t ≡ SC l h u
-  pub rule : (m : NameMap) → substitution inside qq m t ≡ SC l (substitution inside qq m h) (substitution inside qq m u)
+  pub makes : (m : NameMap) → rule m t ≡ SC l (rule m h) (rule m u)
 
 -- an SC `(quote v)`, which is rebuilt
-pub record Quoted (inside qq : Bool) (t : Sexp) (at : ℕ) : Type 0 where
+pub record Quoted (rule : NameMap → Sexp → Sexp) (t : Sexp) (at : ℕ) : Type 0 where
   pub l : Loc
   pub h : Sexp
   pub l₂ : Loc
@@ -41,36 +41,32 @@ pub record Quoted (inside qq : Bool) (t : Sexp) (at : ℕ) : Type 0 where
   pub z : Sexp
   pub is : t ≡ SC l h (SC l₂ v z)
   pub place : at ≡ head-width + length (sexp-bytes h) + head-width
-  pub rule : (m : NameMap) → substitution inside qq m t ≡ SC l h (SC (loc-of v) v (SN (loc-of v)))
+  pub makes : (m : NameMap) → rule m t ≡ SC l h (SC (loc-of v) v (SN (loc-of v)))
 
--- an SC whose only element x, which stands at `at`, goes on alone by the other rule
-pub record Lone (inside qq : Bool) (s : Bytes) (t : Sexp) (at : ℕ) : Type 0 where
+-- an SC whose only element x, which stands at `at`, goes on alone by the rule of `next`
+pub record Lone (rule : NameMap → Sexp → Sexp) (next : Quasi) (s : Bytes) (t : Sexp) (at : ℕ) : Type 0 where
   pub x : Sexp
   pub fields : SexpFields x
   pub there : At s at (sexp-bytes x)
-  pub moved : 0 < at
   pub within : at + length (sexp-bytes x) ≤ length (sexp-bytes t)
-  pub rule : (m : NameMap) → substitution inside qq m t ≡ substitution (not inside) qq m x
+  pub deeper : cons-depth x < cons-depth t
+  pub makes : (m : NameMap) → rule m t ≡ substitution next m x
 
 -- what the plan p says of the record t
-pub data Planned (inside qq : Bool) (s : Bytes) (p : Plan) (t : Sexp) : Type 0 where
-  keeps : p ≡ Kept (length (sexp-bytes t)) → ((m : NameMap) → substitution inside qq m t ≡ t) → Planned inside qq s p t
-  renames : p ≡ ByMap → ((m : NameMap) → substitution inside qq m t ≡ rename-atom m t) → Planned inside qq s p t
-  quotes : (at : ℕ) → p ≡ Requoted at (length (sexp-bytes t)) → Quoted inside qq t at → Planned inside qq s p t
-  goes-alone : (at : ℕ) → p ≡ Alone at (length (sexp-bytes t)) → Lone inside qq s t at → Planned inside qq s p t
-  goes-on : p ≡ Parts → Goes inside qq t → Planned inside qq s p t
+pub data Planned (rule : NameMap → Sexp → Sexp) (s : Bytes) (p : Plan) (t : Sexp) : Type 0 where
+  keeps : p ≡ Kept (length (sexp-bytes t)) → ((m : NameMap) → rule m t ≡ t) → Planned rule s p t
+  renames : p ≡ ByMap → ((m : NameMap) → rule m t ≡ rename-atom m t) → Planned rule s p t
+  quotes : (at : ℕ) → p ≡ Requoted at (length (sexp-bytes t)) → Quoted rule t at → Planned rule s p t
+  goes-alone : (next : Quasi) (at : ℕ) → p ≡ Alone next at (length (sexp-bytes t)) → Lone rule next s t at → Planned rule s p t
+  goes-on : p ≡ Parts → Goes rule t → Planned rule s p t
 
 -- p is the plan for the record at the start
-pub record Plans (inside qq : Bool) (s : Bytes) (p : Plan) : Type 0 where
-  pub plans : (t : Sexp) → SexpFields t → At s 0 (sexp-bytes t) → Planned inside qq s p t
+pub record Plans (rule : NameMap → Sexp → Sexp) (s : Bytes) (p : Plan) : Type 0 where
+  pub plans : (t : Sexp) → SexpFields t → At s 0 (sexp-bytes t) → Planned rule s p t
 
 -- an SC whose parts go on stands at the start
-pub record PairAtStart (inside qq : Bool) (s : Bytes) : Type 0 where
-  pub goes : (t : Sexp) → SexpFields t → At s 0 (sexp-bytes t) → Goes inside qq t
-
--- what is answered of a record whose result is the same by every map
-abbrev pub Remakes : Bool → Bool → Bytes → Bytes → ℕ → ℕ → ℕ → Step → Type 0
-Remakes inside qq old new free f c r = (m : NameMap) → Answers sexp-bytes SexpFields (λ t. fitting sexp-bytes f c (substitution inside qq m t)) old new 0 free (free + f) r
+pub record PairAtStart (rule : NameMap → Sexp → Sexp) (s : Bytes) : Type 0 where
+  pub goes : (t : Sexp) → SexpFields t → At s 0 (sexp-bytes t) → Goes rule t
 
 -- a record t that is a proper list of one element, which stands at r behind its mark; or is none, and r is 0
 pub data OnlyAt (t : Sexp) (r : ℕ) : Type 0 where
@@ -95,8 +91,8 @@ pub record Singles (s : Bytes) (r : ℕ) : Type 0 where
   pub singles : (l : Loc) (h u : Sexp) → SexpFields (SC l h u) → At s 0 (sexp-bytes (SC l h u)) → SingleAt h u r
 
 -- p is the plan for an SC at the start
-pub record PlansPair (inside qq : Bool) (s : Bytes) (p : Plan) : Type 0 where
-  pub pairs : (l : Loc) (h u : Sexp) → SexpFields (SC l h u) → At s 0 (sexp-bytes (SC l h u)) → Planned inside qq s p (SC l h u)
+pub record PlansPair (rule : NameMap → Sexp → Sexp) (s : Bytes) (p : Plan) : Type 0 where
+  pub pairs : (l : Loc) (h u : Sexp) → SexpFields (SC l h u) → At s 0 (sexp-bytes (SC l h u)) → Planned rule s p (SC l h u)
 
 -- r: the record that s starts with is the atom of this word
 pub record IsAtom (s word : Bytes) (r : Bool) : Type 0 where

@@ -1,4 +1,6 @@
 // A sequential let as nested parallel lets, the first binding outermost.
+use crate::Task;
+use crate::keep::over_long;
 use crate::leaves::keep_body;
 use names::bytes::copy;
 use names::bytes::put;
@@ -8,15 +10,13 @@ use records::MARK_WIDTH;
 use records::Step;
 use records::bodies::let_view;
 use records::skip::skip;
-ghost use mathlib.Core.Path.{_≡_};
-ghost use mathlib.Core.List.{List};
 ghost use Prim.Native.Nat.{_+_, _≤_};
 ghost use lib.ListN.{length};
 ghost use Rattle.names.specs.Segments.{Filled};
-ghost use Rattle.records.specs.Records.{Sequential, Body, Binding};
+ghost use Rattle.records.specs.Records.{head-width, Sequential, body-bytes};
 ghost use Rattle.records.specs.Valid.{IsLet};
-ghost use Rattle.walk.specs.Arena.{head-width};
-ghost use Rattle.walk.specs.Leaves.{BodyAtStart, Desugars, LetsLeft, Nests, let-head, let-of};
+ghost use Rattle.walk.specs.Arena.{Asks};
+ghost use Rattle.walk.specs.Leaves.{Desugars, Nests, ValidKind, ValidLeft, left-bytes, let-head, let-of};
 
 // The bytes of a let of one binding, before the binding: mark, kind, L, K, hint and count.
 const LET_HEAD: usize = MARK_WIDTH + 1 + LOC_WIDTH + 3;
@@ -35,42 +35,55 @@ fn put_let(mem: &mut [u8], free: usize, n: usize)
 }
 
 // Writes the let of each binding that is left around the body behind them.
-fn nested(mem: &mut [u8], left: u8, free: usize, f: usize, counter: u64) -> Step
-    requires { ⌜ ((bs : List Binding) × (b : Body) × (length bs ≡ left) × LetsLeft (now mem) free bs b) ⌝ }
-    requires { ⌜ free + f ≤ length (now mem) ⌝ }
-    ensures { λ r. ⌜ Nests left (now (mem .entry)) (now (mem .exit)) free f counter r ⌝ }
+fn nested(mem: &mut [u8], task: Task, left: u8) -> Step
+    requires { ⌜ Asks left-bytes (ValidLeft left) (now mem) task ⌝ }
+    ensures { λ r. ⌜ Nests left (now (mem .entry)) (now (mem .exit)) task r ⌝ }
 {
     if left == 0 {
-        return keep_body(mem, free, f, counter);
+        return keep_body(mem, task);
     }
     let n = skip(Family::Binding, mem);
-    if f < LET_HEAD + n {
-        return Step::Refused(7, 0);
+    let head = LET_HEAD + n;
+    if task.f < head {
+        return over_long();
     }
-    put_let(mem, free, n);
+    put_let(mem, task.free, n);
     match nested(
         &mut mem[n..],
+        Task {
+            free: task.free + LET_HEAD,
+            map: task.map,
+            f: task.f - head,
+            depth: task.depth,
+            counter: task.counter,
+        },
         left - 1,
-        free + LET_HEAD,
-        f - (LET_HEAD + n),
-        counter,
     ) {
-        Step::Refused(k, p) => Step::Refused(k, p),
-        Step::Done(r, w, c) => Step::Done(n + r, LET_HEAD + n + w, c),
+        Step::Refused(refusal) => Step::Refused(refusal),
+        Step::Done(r, w, c) => Step::Done(n + r, head + w, c),
     }
 }
 
 // Desugars the sequential let at the start of mem.
-pub fn desugar_sequential_let_bindings(mem: &mut [u8], free: usize, f: usize, counter: u64) -> Step
-    requires { ⌜ ((b : Body) × BodyAtStart (now mem) free b × IsLet Sequential b) ⌝ }
-    requires { ⌜ free + f ≤ length (now mem) ⌝ }
-    ensures { λ r. ⌜ Desugars (now (mem .entry)) (now (mem .exit)) free f counter r ⌝ }
+pub fn desugar_sequential_let_bindings(mem: &mut [u8], task: Task) -> Step
+    requires { ⌜ Asks body-bytes (ValidKind (IsLet Sequential)) (now mem) task ⌝ }
+    ensures { λ r. ⌜ Desugars (now (mem .entry)) (now (mem .exit)) task r ⌝ }
 {
     let v = let_view(mem);
     let count = v.count;
     let first = v.first;
-    match nested(&mut mem[first..], count, free - first, f, counter) {
-        Step::Refused(k, p) => Step::Refused(k, p),
+    match nested(
+        &mut mem[first..],
+        Task {
+            free: task.free - first,
+            map: task.map,
+            f: task.f,
+            depth: task.depth,
+            counter: task.counter,
+        },
+        count,
+    ) {
+        Step::Refused(refusal) => Step::Refused(refusal),
         Step::Done(r, w, c) => Step::Done(first + r, w, c),
     }
 }

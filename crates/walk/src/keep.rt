@@ -1,35 +1,30 @@
-// Records that a rule keeps as they are, and how long they are.
+// Records that a rule keeps as they are, and what is answered of a result that is too long.
+use crate::Task;
 use names::bytes::copy;
+use names::refusals::placeless;
 use records::Step;
-use records::sexps::sexp_view;
+ghost use mathlib.Core.Path.{_≡_};
 ghost use Prim.Native.Nat.{_+_, _≤_};
 ghost use lib.ListN.{length};
-ghost use Rattle.records.specs.Records.{sexp-bytes, body-bytes};
-ghost use Rattle.walk.specs.Arena.{Kept, Measures};
+ghost use Rattle.records.specs.declared.Step.the-variants.{Refused};
+ghost use Rattle.walk.specs.Arena.{KeepsBytes};
+ghost use Rattle.walk.specs.Steps.{over-long};
 
-// The length of the S record that s starts with, however deep it is.
-pub fn sexp_length(s: &[u8]) -> usize
-    ensures { λ r. ⌜ Measures (now (s .entry)) r ⌝ }
+// The answer where a result is longer than it may be.
+pub fn over_long() -> Step
+    ensures { λ r. ⌜ r ≡ Refused over-long ⌝ }
 {
-    let v = sexp_view(s);
-    let start = v.start;
-    let end = v.end;
-    if v.tag != 1 {
-        return end;
-    }
-    let tail = start + sexp_length(&s[start..]);
-    tail + sexp_length(&s[tail..])
+    Step::Refused(placeless(7))
 }
 
-// Keeps the record of n bytes at the start of mem.
-pub fn keep(mem: &mut [u8], free: usize, n: usize, f: usize, counter: u64) -> Step
-    requires { ⌜ (n ≤ free) × (free + f ≤ length (now mem)) ⌝ }
-    ensures { λ r. ⌜ Kept sexp-bytes (now (mem .entry)) (now (mem .exit)) free n f counter r ⌝ }
-    ensures { λ r. ⌜ Kept body-bytes (now (mem .entry)) (now (mem .exit)) free n f counter r ⌝ }
+// Keeps the n bytes at the start of mem.
+pub fn keep(mem: &mut [u8], task: Task, n: usize) -> Step
+    requires { ⌜ (n ≤ task .free) × (task .free + task .f ≤ length (now mem)) ⌝ }
+    ensures { λ r. ⌜ KeepsBytes (now (mem .entry)) (now (mem .exit)) n task r ⌝ }
 {
-    if f < n {
-        return Step::Refused(7, 0);
+    if task.f < n {
+        return over_long();
     }
-    copy(mem, 0, free, n);
-    Step::Done(n, n, counter)
+    copy(mem, 0, task.free, n);
+    Step::Done(n, n, task.counter)
 }

@@ -4,6 +4,8 @@
 // of an S record by a map, `plans` how each S record is taken by it, `keep` records kept as they are.
 // `leaves` takes the B records that go no level down, `desugar` a sequential let. The other rules
 // stand in specs/ and proofs/ alone.
+use names::Refusal;
+
 pub mod desugar;
 pub mod invent;
 pub mod keep;
@@ -11,13 +13,37 @@ pub mod leaves;
 pub mod plans;
 pub mod substitute;
 
-// What drawing names answers: 0, or the refusal's number; how many bytes the map has then, the
-// counter, and where the next record stands.
-pub struct Invented {
-    pub number: u32,
+// What a step is given beside the record at the start of memory: where its result goes, how many
+// bytes the map at the end of memory has, how long the result may be, how deep the record may nest
+// (the SC of an S record, the levels of a B record), and the counter.
+pub struct Task {
+    pub free: usize,
+    pub map: usize,
+    pub f: usize,
+    pub depth: usize,
+    pub counter: u64,
+}
+
+// How far names are drawn: how many bytes the map has, the counter, and where the next record
+// stands.
+pub struct Growth {
     pub len: usize,
     pub counter: u64,
     pub end: usize,
+}
+
+// What drawing names answers: how far they are drawn, or its refusal.
+pub enum Invented {
+    Drawn(Growth),
+    Refused(Refusal),
+}
+
+// Where a `qq` matters to the names of an S record: nowhere (`rename_in_cons` without qq); outside one
+// (`rename_in_cons` with qq); inside one (`rename_in_qq`).
+pub enum Quasi {
+    Ignored,
+    Outside,
+    Inside,
 }
 
 // How an S record is substituted.
@@ -28,8 +54,8 @@ pub enum Plan {
     ByMap,
     // A `(quote v)` is rebuilt: where v starts, and where the record ends.
     Requoted(usize, usize),
-    // The element that starts there goes on alone by the other rule; and where the record ends.
-    Alone(usize, usize),
+    // The element that starts there goes on alone by this rule; and where the record ends.
+    Alone(Quasi, usize, usize),
     // Both parts go on.
     Parts,
 }

@@ -1,35 +1,35 @@
 // How an S record is substituted, by its kind and its head.
 use crate::Plan;
-use crate::keep::sexp_length;
+use crate::Quasi;
 use names::bytes::same;
-use records::sexp::sexp_mark;
+use records::SexpView;
 use records::sexps::all_zero;
 use records::sexps::sexp_view;
-ghost use mathlib.Core.Bool.{true, false};
+use records::skip::skip_sexp;
+ghost use mathlib.Core.Bool.{true};
 ghost use mathlib.Core.Path.{_≡_};
 ghost use Rattle.names.specs.Segments.{At};
 ghost use Rattle.records.specs.Records.{Sexp, sexp-bytes};
 ghost use Rattle.records.specs.Sexps.{nilp};
 ghost use Rattle.records.specs.Valid.{SexpFields};
-ghost use Rattle.walk.specs.Plans.{Plans, PlansPair, IsAtom, Onlys, HeadAt, Singles};
+ghost use Rattle.walk.specs.Plans.{Plans, PlansPair, IsAtom, Onlys, HeadAt, Singles, substitution};
+ghost use Rattle.walk.specs.RenameInCons.{rename-in-cons, rename-in-qq};
 
 // Whether the S record that s starts with ends a proper list.
 fn nilp(s: &[u8]) -> bool
     ensures { λ r. ⌜ ((t : Sexp) → SexpFields t → At (now (s .entry)) 0 (sexp-bytes t) → r ≡ nilp t) ⌝ }
 {
     let v = sexp_view(s);
-    let start = v.start;
-    let end = v.end;
-    let tag = v.tag;
-    match tag {
-        0 => true,
-        2 => {
-            if sexp_mark(s) == 2 {
-                return all_zero(&s[start..end]);
-            }
-            start == end
+    match v {
+        SexpView::Nil(_) => true,
+        SexpView::Pair(_) => false,
+        SexpView::Integer(n) => {
+            let start = n.start;
+            let end = n.end;
+            all_zero(&s[start..end])
         }
-        _ => false,
+        SexpView::Text(n) | SexpView::Atom(n) => n.start == n.end,
+        SexpView::Unknown => false,
     }
 }
 
@@ -37,12 +37,12 @@ fn nilp(s: &[u8]) -> bool
 fn is_atom(s: &[u8], word: &[u8]) -> bool
     ensures { λ r. ⌜ IsAtom (now (s .entry)) (now (word .entry)) r ⌝ }
 {
-    if sexp_mark(s) != 4 {
-        return false;
-    }
     let v = sexp_view(s);
-    let start = v.start;
-    let end = v.end;
+    let SexpView::Atom(n) = v else {
+        return false;
+    };
+    let start = n.start;
+    let end = n.end;
     same(&s[start..end], word)
 }
 
@@ -51,13 +51,12 @@ fn only(s: &[u8]) -> usize
     ensures { λ r. ⌜ Onlys (now (s .entry)) r ⌝ }
 {
     let v = sexp_view(s);
-    let start = v.start;
-    if v.tag != 1 {
+    let SexpView::Pair(head) = v else {
         return 0;
-    }
-    let next = start + sexp_length(&s[start..]);
+    };
+    let next = head + skip_sexp(&s[head..]);
     if nilp(&s[next..]) {
-        return start;
+        return head;
     }
     0
 }
@@ -67,7 +66,7 @@ fn single(s: &[u8], head: usize) -> usize
     requires { ⌜ HeadAt (now s) head ⌝ }
     ensures { λ r. ⌜ Singles (now (s .entry)) r ⌝ }
 {
-    let tail = head + sexp_length(&s[head..]);
+    let tail = head + skip_sexp(&s[head..]);
     let x = only(&s[tail..]);
     if x == 0 {
         return 0;
@@ -76,32 +75,32 @@ fn single(s: &[u8], head: usize) -> usize
 }
 
 // The plan for an SC inside `qq`.
-fn in_qq(s: &[u8], head: usize, qq: bool) -> Plan
+fn in_qq(s: &[u8], head: usize) -> Plan
     requires { ⌜ HeadAt (now s) head ⌝ }
-    ensures { λ r. ⌜ PlansPair true qq (now (s .entry)) r ⌝ }
+    ensures { λ r. ⌜ PlansPair (rename-in-qq true) (now (s .entry)) r ⌝ }
 {
     if is_atom(&s[head..], b"unquote") {
         let x = single(s, head);
         if x != 0 {
-            let end = sexp_length(s);
-            return Plan::Alone(x, end);
+            let end = skip_sexp(s);
+            return Plan::Alone(Quasi::Outside, x, end);
         }
     }
     Plan::Parts
 }
 
-// The plan for an SC outside `qq`.
+// The plan for an SC outside `qq`; with qq the head `qq` is looked into.
 fn in_cons(s: &[u8], head: usize, qq: bool) -> Plan
     requires { ⌜ HeadAt (now s) head ⌝ }
-    ensures { λ r. ⌜ PlansPair false qq (now (s .entry)) r ⌝ }
+    ensures { λ r. ⌜ PlansPair (rename-in-cons qq) (now (s .entry)) r ⌝ }
 {
     if is_atom(&s[head..], b"q") {
-        let end = sexp_length(s);
+        let end = skip_sexp(s);
         return Plan::Kept(end);
     }
     if is_atom(&s[head..], b"quote") {
         let x = single(s, head);
-        let end = sexp_length(s);
+        let end = skip_sexp(s);
         if x != 0 {
             return Plan::Requoted(x, end);
         }
@@ -110,9 +109,9 @@ fn in_cons(s: &[u8], head: usize, qq: bool) -> Plan
     if qq {
         if is_atom(&s[head..], b"qq") {
             let x = single(s, head);
-            let end = sexp_length(s);
+            let end = skip_sexp(s);
             if x != 0 {
-                return Plan::Alone(x, end);
+                return Plan::Alone(Quasi::Inside, x, end);
             }
             return Plan::Kept(end);
         }
@@ -120,21 +119,21 @@ fn in_cons(s: &[u8], head: usize, qq: bool) -> Plan
     Plan::Parts
 }
 
-// The plan for the S record that s starts with; inside `qq`, or outside.
-pub fn plan_of(s: &[u8], qq: bool, inside: bool) -> Plan
-    ensures { λ r. ⌜ Plans inside qq (now (s .entry)) r ⌝ }
+// The plan for the S record that s starts with.
+pub fn plan_of(s: &[u8], quasi: Quasi) -> Plan
+    ensures { λ r. ⌜ Plans (substitution quasi) (now (s .entry)) r ⌝ }
 {
     let v = sexp_view(s);
-    let start = v.start;
-    let end = v.end;
-    if v.tag != 1 {
-        if inside {
-            return Plan::Kept(end);
-        }
-        return Plan::ByMap;
+    let SexpView::Pair(head) = v else {
+        return match quasi {
+            Quasi::Ignored => Plan::ByMap,
+            Quasi::Outside => Plan::ByMap,
+            Quasi::Inside => Plan::Kept(skip_sexp(s)),
+        };
+    };
+    match quasi {
+        Quasi::Ignored => in_cons(s, head, false),
+        Quasi::Outside => in_cons(s, head, true),
+        Quasi::Inside => in_qq(s, head),
     }
-    if inside {
-        return in_qq(s, start, qq);
-    }
-    in_cons(s, start, qq)
 }

@@ -1,8 +1,10 @@
 // Substitute: the names of an S record by a map. The record stands at the start of the memory, its
 // result goes to `free`, and the map stands at the end.
 use crate::Plan;
+use crate::Quasi;
+use crate::Task;
 use crate::keep::keep;
-use crate::keep::sexp_length;
+use crate::keep::over_long;
 use crate::plans::plan_of;
 use names::NAME_LIMIT;
 use names::NAME_WIDTH;
@@ -10,21 +12,26 @@ use names::bytes::copy;
 use names::bytes::put;
 use names::bytes::put_name;
 use names::map::lookup;
+use records::HEAD_WIDTH;
 use records::LOC_WIDTH;
 use records::MARK_WIDTH;
+use records::NameView;
+use records::SexpView;
 use records::Step;
-use records::sexp::sexp_mark;
 use records::sexps::sexp_view;
+use records::skip::skip_sexp;
 ghost use mathlib.Core.Bool.{true};
 ghost use Prim.Native.Nat.{_+_, _≤_};
 ghost use lib.ListN.{length};
-ghost use Rattle.names.specs.Maps.{NameMap};
 ghost use Rattle.names.specs.Names.{name-limit};
 ghost use Rattle.names.specs.Segments.{Filled};
-ghost use Rattle.records.specs.Records.{Sexp};
-ghost use Rattle.walk.specs.Arena.{MapAt, SexpAtStart, Substitutes, AtomAtStart, head-width, named};
+ghost use Rattle.records.specs.Records.{head-width, sexp-bytes};
+ghost use Rattle.records.specs.Valid.{SexpFields};
+ghost use Rattle.records.specs.Views.{SeesSexp};
+ghost use Rattle.records.specs.declared.SexpView.the-variants.{Atom};
+ghost use Rattle.walk.specs.Arena.{Asks, Held, Substitutes, named};
 ghost use Rattle.walk.specs.RenameInCons.{rename-atom, rename-in-cons, rename-in-qq};
-ghost use Rattle.walk.specs.Plans.{Plans, PairAtStart, Remakes, substitution};
+ghost use Rattle.walk.specs.Plans.{Plans, PairAtStart, substitution};
 ghost use Rattle.walk.specs.declared.Plan.the-variants.{Requoted, Alone};
 
 // Writes the SA at the start of mem to free, with another name.
@@ -34,182 +41,162 @@ fn put_atom(mem: &mut [u8], free: usize, name: &[u8])
     requires { ⌜ free + length (named (now mem) (now name)) ≤ length (now mem) ⌝ }
     ensures { λ _. ⌜ Filled (now (mem .entry)) (now (mem .exit)) free (named (now (mem .entry)) (now (name .entry))) (length (named (now (mem .entry)) (now (name .entry)))) ⌝ }
 {
-    copy(mem, 0, free, MARK_WIDTH + LOC_WIDTH);
-    put_name(mem, free + MARK_WIDTH + LOC_WIDTH, name);
+    copy(mem, 0, free, HEAD_WIDTH);
+    put_name(mem, free + HEAD_WIDTH, name);
 }
 
-// An SA, by the map.
-fn rename_name(mem: &mut [u8], free: usize, map_len: usize, f: usize, counter: u64) -> Step
-    requires { ⌜ AtomAtStart (now mem) ⌝ }
-    requires { ⌜ ((t : Sexp) × SexpAtStart (now mem) free t) ⌝ }
-    requires { ⌜ ((m : NameMap) × MapAt (now mem) «map_len» m) ⌝ }
-    requires { ⌜ free + f + «map_len» ≤ length (now mem) ⌝ }
-    ensures { λ r. ⌜ Substitutes rename-atom (now (mem .entry)) (now (mem .exit)) free «map_len» f counter r ⌝ }
+// An SA, by the map; n is where its name stands.
+fn rename_name(mem: &mut [u8], n: NameView, task: Task) -> Step
+    requires { ⌜ SeesSexp (now mem) (Atom n) ⌝ }
+    requires { ⌜ Asks sexp-bytes SexpFields (now mem) task ⌝ }
+    ensures { λ r. ⌜ Substitutes rename-atom (now (mem .entry)) (now (mem .exit)) task r ⌝ }
 {
-    let v = sexp_view(mem);
-    let start = v.start;
-    let end = v.end;
-    let top = mem.len() - map_len;
+    let start = n.start;
+    let end = n.end;
+    let top = mem.len() - task.map;
     let mut name = [0u8; NAME_LIMIT];
     let w = &mem[..];
     let found = lookup(&w[start..end], &w[top..]);
     let k = found.len();
     put(&mut name, 0, found);
-    let n = MARK_WIDTH + LOC_WIDTH + NAME_WIDTH + k;
-    if f < n {
-        return Step::Refused(7, 0);
+    let size = HEAD_WIDTH + NAME_WIDTH + k;
+    if task.f < size {
+        return over_long();
     }
-    put_atom(mem, free, &name[..k]);
-    Step::Done(end, n, counter)
+    put_atom(mem, task.free, &name[..k]);
+    Step::Done(end, size, task.counter)
 }
 
 // An atom alone, by the map; every other S record is kept.
-pub fn rename_atom(mem: &mut [u8], free: usize, map_len: usize, f: usize, counter: u64) -> Step
-    requires { ⌜ ((t : Sexp) × SexpAtStart (now mem) free t) ⌝ }
-    requires { ⌜ ((m : NameMap) × MapAt (now mem) «map_len» m) ⌝ }
-    requires { ⌜ free + f + «map_len» ≤ length (now mem) ⌝ }
-    ensures { λ r. ⌜ Substitutes rename-atom (now (mem .entry)) (now (mem .exit)) free «map_len» f counter r ⌝ }
+pub fn rename_atom(mem: &mut [u8], task: Task) -> Step
+    requires { ⌜ Asks sexp-bytes SexpFields (now mem) task ⌝ }
+    ensures { λ r. ⌜ Substitutes rename-atom (now (mem .entry)) (now (mem .exit)) task r ⌝ }
 {
-    if sexp_mark(mem) == 4 {
-        return rename_name(mem, free, map_len, f, counter);
+    let v = sexp_view(mem);
+    if let SexpView::Atom(n) = v {
+        return rename_name(mem, n, task);
     }
-    let n = sexp_length(mem);
-    keep(mem, free, n, f, counter)
+    let n = skip_sexp(mem);
+    keep(mem, task, n)
 }
 
 // Rebuilds a `(quote v)` whose v starts at `at`: its inner SC and closing SN at the L of v.
-fn requote(
-    mem: &mut [u8],
-    free: usize,
-    qq: bool,
-    inside: bool,
-    at: usize,
-    end: usize,
-    f: usize,
-    counter: u64,
-) -> Step
-    requires { ⌜ ((t : Sexp) × SexpAtStart (now mem) free t) ⌝ }
-    requires { ⌜ free + f ≤ length (now mem) ⌝ }
-    requires { ⌜ Plans inside qq (now mem) (Requoted at end) ⌝ }
-    ensures { λ r. ⌜ Remakes inside qq (now (mem .entry)) (now (mem .exit)) free f counter r ⌝ }
+fn requote(mem: &mut [u8], task: Task, quasi: Quasi, at: usize, end: usize) -> Step
+    requires { ⌜ Asks sexp-bytes SexpFields (now mem) task ⌝ }
+    requires { ⌜ Plans (substitution quasi) (now mem) (Requoted at end) ⌝ }
+    ensures { λ r. ⌜ Substitutes (substitution quasi) (now (mem .entry)) (now (mem .exit)) task r ⌝ }
 {
+    let free = task.free;
     let loc = at + MARK_WIDTH;
-    let last = at + sexp_length(&mem[at..]);
-    if f < last + MARK_WIDTH + LOC_WIDTH {
-        return Step::Refused(7, 0);
+    let last = at + skip_sexp(&mem[at..]);
+    if task.f < last + HEAD_WIDTH {
+        return over_long();
     }
     copy(mem, 0, free, last);
     copy(mem, loc, free + at - LOC_WIDTH, LOC_WIDTH);
     put(mem, free + last, b"SN");
     copy(mem, loc, free + last + MARK_WIDTH, LOC_WIDTH);
-    Step::Done(end, last + MARK_WIDTH + LOC_WIDTH, counter)
+    Step::Done(end, last + HEAD_WIDTH, task.counter)
 }
 
-// The element that starts at `at` alone, by the other rule, for a record that ends at `end`.
-fn alone(
-    mem: &mut [u8],
-    free: usize,
-    map_len: usize,
-    qq: bool,
-    inside: bool,
-    at: usize,
-    end: usize,
-    f: usize,
-    counter: u64,
-) -> Step
-    requires { ⌜ ((t : Sexp) × SexpAtStart (now mem) free t) ⌝ }
-    requires { ⌜ ((m : NameMap) × MapAt (now mem) «map_len» m) ⌝ }
-    requires { ⌜ free + f + «map_len» ≤ length (now mem) ⌝ }
-    requires { ⌜ Plans inside qq (now mem) (Alone at end) ⌝ }
-    ensures { λ r. ⌜ Substitutes (substitution inside qq) (now (mem .entry)) (now (mem .exit)) free «map_len» f counter r ⌝ }
+// The element that starts at `at` alone, by the rule `next`, for a record that ends at `end`.
+fn alone(mem: &mut [u8], task: Task, quasi: Quasi, next: Quasi, at: usize, end: usize) -> Step
+    requires { ⌜ Asks sexp-bytes (Held (task .depth)) (now mem) task ⌝ }
+    requires { ⌜ Plans (substitution quasi) (now mem) (Alone next at end) ⌝ }
+    ensures { λ r. ⌜ Substitutes (substitution quasi) (now (mem .entry)) (now (mem .exit)) task r ⌝ }
 {
-    match rename(&mut mem[at..], free - at, map_len, qq, !inside, f, counter) {
-        Step::Refused(k, p) => Step::Refused(k, p),
+    match rename(
+        &mut mem[at..],
+        Task {
+            free: task.free - at,
+            map: task.map,
+            f: task.f,
+            depth: task.depth - 1,
+            counter: task.counter,
+        },
+        next,
+    ) {
+        Step::Refused(refusal) => Step::Refused(refusal),
         Step::Done(_, w, c) => Step::Done(end, w, c),
     }
 }
 
 // An SC whose parts go on.
-fn pair(
-    mem: &mut [u8],
-    free: usize,
-    map_len: usize,
-    qq: bool,
-    inside: bool,
-    f: usize,
-    counter: u64,
-) -> Step
-    requires { ⌜ ((t : Sexp) × SexpAtStart (now mem) free t) ⌝ }
-    requires { ⌜ ((m : NameMap) × MapAt (now mem) «map_len» m) ⌝ }
-    requires { ⌜ free + f + «map_len» ≤ length (now mem) ⌝ }
-    requires { ⌜ PairAtStart inside qq (now mem) ⌝ }
-    ensures { λ r. ⌜ Substitutes (substitution inside qq) (now (mem .entry)) (now (mem .exit)) free «map_len» f counter r ⌝ }
+fn pair(mem: &mut [u8], task: Task, quasi: Quasi) -> Step
+    requires { ⌜ Asks sexp-bytes (Held (task .depth)) (now mem) task ⌝ }
+    requires { ⌜ PairAtStart (substitution quasi) (now mem) ⌝ }
+    ensures { λ r. ⌜ Substitutes (substitution quasi) (now (mem .entry)) (now (mem .exit)) task r ⌝ }
 {
-    let at = MARK_WIDTH + LOC_WIDTH;
+    let at = HEAD_WIDTH;
+    let free = task.free;
+    let f = task.f;
     if f < at {
-        return Step::Refused(7, 0);
+        return over_long();
     }
     copy(mem, 0, free, at);
-    match rename(&mut mem[at..], free, map_len, qq, inside, f - at, counter) {
-        Step::Refused(k, p) => Step::Refused(k, p),
+    let depth = task.depth - 1;
+    match rename(
+        &mut mem[at..],
+        Task {
+            free,
+            map: task.map,
+            f: f - at,
+            depth,
+            counter: task.counter,
+        },
+        quasi,
+    ) {
+        Step::Refused(refusal) => Step::Refused(refusal),
         Step::Done(hr, hw, c) => {
             let t = at + hr;
             let q = at + hw;
-            match rename(&mut mem[t..], free + q - t, map_len, qq, inside, f - q, c) {
-                Step::Refused(k, p) => Step::Refused(k, p),
+            match rename(
+                &mut mem[t..],
+                Task {
+                    free: free + q - t,
+                    map: task.map,
+                    f: f - q,
+                    depth,
+                    counter: c,
+                },
+                quasi,
+            ) {
+                Step::Refused(refusal) => Step::Refused(refusal),
                 Step::Done(tr, tw, d) => Step::Done(t + tr, q + tw, d),
             }
         }
     }
 }
 
-// The names of the S record at the start of mem by the map; inside `qq`, or outside.
-fn rename(
-    mem: &mut [u8],
-    free: usize,
-    map_len: usize,
-    qq: bool,
-    inside: bool,
-    f: usize,
-    counter: u64,
-) -> Step
-    requires { ⌜ ((t : Sexp) × SexpAtStart (now mem) free t) ⌝ }
-    requires { ⌜ ((m : NameMap) × MapAt (now mem) «map_len» m) ⌝ }
-    requires { ⌜ free + f + «map_len» ≤ length (now mem) ⌝ }
-    ensures { λ r. ⌜ Substitutes (substitution inside qq) (now (mem .entry)) (now (mem .exit)) free «map_len» f counter r ⌝ }
+// The names of the S record at the start of mem by the map.
+fn rename(mem: &mut [u8], task: Task, quasi: Quasi) -> Step
+    requires { ⌜ Asks sexp-bytes (Held (task .depth)) (now mem) task ⌝ }
+    ensures { λ r. ⌜ Substitutes (substitution quasi) (now (mem .entry)) (now (mem .exit)) task r ⌝ }
 {
-    match plan_of(mem, qq, inside) {
-        Plan::Kept(n) => keep(mem, free, n, f, counter),
-        Plan::ByMap => rename_atom(mem, free, map_len, f, counter),
-        Plan::Requoted(at, end) => requote(mem, free, qq, inside, at, end, f, counter),
-        Plan::Alone(at, end) => alone(mem, free, map_len, qq, inside, at, end, f, counter),
-        Plan::Parts => pair(mem, free, map_len, qq, inside, f, counter),
+    match plan_of(mem, quasi) {
+        Plan::Kept(n) => keep(mem, task, n),
+        Plan::ByMap => rename_atom(mem, task),
+        Plan::Requoted(at, end) => requote(mem, task, quasi, at, end),
+        Plan::Alone(next, at, end) => alone(mem, task, quasi, next, at, end),
+        Plan::Parts => pair(mem, task, quasi),
     }
 }
 
 // Substitute (`rename_in_cons`); with qq the head `qq` is looked into.
-pub fn rename_in_cons(
-    mem: &mut [u8],
-    free: usize,
-    map_len: usize,
-    qq: bool,
-    f: usize,
-    counter: u64,
-) -> Step
-    requires { ⌜ ((t : Sexp) × SexpAtStart (now mem) free t) ⌝ }
-    requires { ⌜ ((m : NameMap) × MapAt (now mem) «map_len» m) ⌝ }
-    requires { ⌜ free + f + «map_len» ≤ length (now mem) ⌝ }
-    ensures { λ r. ⌜ Substitutes (rename-in-cons qq) (now (mem .entry)) (now (mem .exit)) free «map_len» f counter r ⌝ }
+pub fn rename_in_cons(mem: &mut [u8], task: Task, qq: bool) -> Step
+    requires { ⌜ Asks sexp-bytes (Held (task .depth)) (now mem) task ⌝ }
+    ensures { λ r. ⌜ Substitutes (rename-in-cons qq) (now (mem .entry)) (now (mem .exit)) task r ⌝ }
 {
-    rename(mem, free, map_len, qq, false, f, counter)
+    if qq {
+        return rename(mem, task, Quasi::Outside);
+    }
+    rename(mem, task, Quasi::Ignored)
 }
 
 // Inside `qq` (`rename_in_qq`); what an `unquote` holds is looked into by `rename_in_cons` with qq.
-pub fn rename_in_qq(mem: &mut [u8], free: usize, map_len: usize, f: usize, counter: u64) -> Step
-    requires { ⌜ ((t : Sexp) × SexpAtStart (now mem) free t) ⌝ }
-    requires { ⌜ ((m : NameMap) × MapAt (now mem) «map_len» m) ⌝ }
-    requires { ⌜ free + f + «map_len» ≤ length (now mem) ⌝ }
-    ensures { λ r. ⌜ Substitutes (rename-in-qq true) (now (mem .entry)) (now (mem .exit)) free «map_len» f counter r ⌝ }
+pub fn rename_in_qq(mem: &mut [u8], task: Task) -> Step
+    requires { ⌜ Asks sexp-bytes (Held (task .depth)) (now mem) task ⌝ }
+    ensures { λ r. ⌜ Substitutes (rename-in-qq true) (now (mem .entry)) (now (mem .exit)) task r ⌝ }
 {
-    rename(mem, free, map_len, true, true, f, counter)
+    rename(mem, task, Quasi::Inside)
 }

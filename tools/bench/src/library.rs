@@ -11,7 +11,7 @@ extern "C" {
     /// Reads an input of a kind (0 a form, 1 a helper, 2 an assign) with this F. Gives the number, and the place through `place`.
     fn records_open(kind: u8, input: *const u8, input_len: usize, f: usize, place: *mut u64) -> u32;
 
-    /// The call Order. Gives the number, and the rest of the answer but the counter through the last three.
+    /// The call Order. Gives the number, and place, rounds and length through `told`.
     fn order(
         f: usize,
         work: *mut u8,
@@ -21,9 +21,7 @@ extern "C" {
         input_len: usize,
         result: *mut u8,
         result_len: usize,
-        place: *mut u64,
-        rounds: *mut u64,
-        len: *mut u64,
+        told: *mut [u64; 3],
     ) -> u32;
 
 }
@@ -47,7 +45,7 @@ pub struct Ordered {
 /// The call Order on a case, with the start of the work memory.
 pub fn call_order(case: &Case, work: &mut [u8], result: &mut [u8]) -> Ordered {
     let work = &mut work[..case.work as usize];
-    let [mut place, mut rounds, mut len] = [0; 3];
+    let mut told = [0; 3];
     // SAFETY: each pointer and length are one slice's, no two of them overlap, and the three numbers live through the call.
     let number = unsafe {
         order(
@@ -59,10 +57,9 @@ pub fn call_order(case: &Case, work: &mut [u8], result: &mut [u8]) -> Ordered {
             case.input.len(),
             result.as_mut_ptr(),
             result.len(),
-            &mut place,
-            &mut rounds,
-            &mut len,
+            &mut told,
         )
     };
+    let [place, rounds, len] = told;
     Ordered { number: number.into(), place, rounds, len }
 }

@@ -2,10 +2,10 @@
 -- Assumes nothing.
 use mathlib.Core.Path.{_≡_}
 use native.Mathlib.Omega.{arith}
-use Prim.Native.Nat.{_+_, _-_, _≤_}
+use Prim.Native.Nat.{_-_, _≤_}
 use lib.ListN.{drop}
 use Rattle.names.specs.Segments.{Filled}
-use Rattle.names.proofs.Frames.{copied-more, filled-none, get-below}
+use Rattle.names.proofs.Frames.{copied-more, filled-none}
 use Rattle.names.proofs.bytes.copy.Statement.{statement}
 use Rattle.names.proofs.bytes.copy.Tie as tie
 
@@ -16,11 +16,7 @@ abbrev μ-loop : tie.MeasureT-loop
 μ-loop mem₀ from to n i₀ mem i = n - i
 
 loop-again : tie.Need-loop-again Inv-loop μ-loop
-loop-again c =
-    let from = c .before .before .before .args .from in
-    let l = c .before .before .loop in
-    let f = l .inv .1 in
-    (omega arith, copied-more from f (omega arith) (omega arith) (get-below (f .frame) (from + l .i) (omega arith)))
+loop-again c = (omega arith, copied-more (c .before .before .before .pre) (c .before .before .loop .inv .1) (omega arith))
 
 returns : tie.Need-returns Inv-loop μ-loop
 returns c =

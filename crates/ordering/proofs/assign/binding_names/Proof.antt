@@ -9,7 +9,7 @@ use Rattle.ordering.proofs.assign.binding_names.Tie as tie
 pattern-names-requires : tie.Need-pattern-names-requires
 pattern-names-requires c κs =
     let a = c .before .before .before .before .before .before .args in
-    (c .before .past-bytes .ensures .within, omega (arith, c .before .before .before .before .before .before .pre .1), omega (arith, length-set (a .given .now) (a .n) 0, c .before .before .before .before .before .before .pre .2))
+    (c .before .past-bytes .ensures .past .within, omega (arith, c .before .before .before .before .before .before .pre .1), omega (arith, length-set (a .given .now) (a .n) 0, c .before .before .before .before .before .before .pre .2))
 
 same-length : tie.Need-same-length
 same-length c =
@@ -18,7 +18,7 @@ same-length c =
 
 returns : tie.Need-returns
 returns c =
-    binding-listed (c .before .before .before .before .before .before .before .before .before .pre .0) (c .before .before .before .before .before .past-head .ensures) (c .before .before .before .before .past-bytes .ensures)
+    binding-listed (c .before .before .before .before .before .before .before .before .before .pre .0) (c .before .before .before .before .before .past-head .ensures) (c .before .before .before .before .past-bytes .ensures .past)
     (c .before .before .before .before .before .before .before .before .before .pre .2) (c .before .before .pattern-names .ensures)
 
 pub binding-names-spec : {M : Type 1} → statement M

@@ -14,7 +14,9 @@ order-of-requires c κs =
     (t .6 .size, (t .0, t .1, t .2, t .3, t .4, t .5, t .6 .let-there))
 
 returns : tie.Need-returns
-returns c = c .refused .ensures _ ∙ sym (call-refused _ _ _ _ _ _ _ (sym (c .before .before .opening .given .1) ∙ c .before .before .before .before .open-input .ensures))
+returns c =
+    let o = c .before .before in
+    c .refused .ensures _ ∙ sym (call-refused _ _ _ _ _ _ (sym (o .opening .given .1) ∙ o .before .before .open-input .ensures))
 
 returns-2 : tie.Need-returns-2
 returns-2 c =

@@ -1,23 +1,28 @@
 -- `ordering::call::order_of` meets its contract. Assumes nothing.
 use borrow.Author.Needs.{needs}
-use mathlib.Core.Path.{sym, _∙_}
+use mathlib.Core.Path.{ap, sym, _∙_}
 use native.Mathlib.Omega.{arith}
+use Rattle.names.specs.Refusals.{place-at}
 use Rattle.ordering.proofs.OrderLaws.{order-short, let-count, loc-fits, answer-stuck, answer-found}
 use Rattle.ordering.proofs.call.order_of.Statement.{statement}
 use Rattle.ordering.proofs.call.order_of.Tie as tie
 
 returns : tie.Need-returns
 returns c = λ k l w h bs b t.
-    c .refused .ensures _ ∙ sym (order-short _ _ k l w h bs b (omega (arith, let-count (c .before .before .before .let-view .ensures) t)))
+    let seen = c .before .before .before in
+    c .refused .ensures _ ∙ rw (c .before .placeless .ensures) (sym (order-short _ _ k l w h bs b (omega (arith, let-count (seen .before .let-view .ensures) t))))
 
 number-requires : tie.Need-number-requires
 number-requires c κs = (omega arith, loc-fits (c .before .before .before .before .before .let-view .ensures) (c .before .before .before .before .before .before .before .before .pre .1 .6))
 
 stuck-requires : tie.Need-stuck-requires
 stuck-requires c κs =
-    let t = c .before .before .before .before .before .before .before .before .before .before .pre .1 in
-    let o = c .before .before .before .before .toposort-assign-bindings .ensures _ _ _ _ _ _ (t .6) in
-    (o .few, o .row, o .placed, omega (arith, o .count, let-count (c .before .before .before .before .before .before .before .let-view .ensures) (t .6)))
+    let tested = c .before .before .before in
+    let sorted = tested .before .before in
+    let seen = sorted .before .before .before in
+    let t = seen .before .before .before .pre .1 in
+    let o = sorted .toposort-assign-bindings .ensures _ _ _ _ _ _ (t .6) in
+    (o .few, o .row, o .placed, omega (arith, o .count, let-count (seen .let-view .ensures) (t .6)))
 
 ordered-requires : tie.Need-ordered-requires
 ordered-requires c κs =
@@ -27,7 +32,13 @@ ordered-requires c κs =
 
 returns-2 : tie.Need-returns-2
 returns-2 c = λ k l w h bs b t.
-    answer-stuck (c .before .before .before .before .before .before .before .before .before .before .let-view .ensures) t _ _ (c .before .before .before .before .before .before .before .toposort-assign-bindings .ensures k l w h bs b t) (omega arith) (c .before .before .before .before .before .if2 .taken) (c .before .before .before .before .number .ensures .0) (c .before .before .stuck .ensures)
+    let lent = c .before .before .before in
+    let numbered = lent .before .before in
+    let tested = numbered .before in
+    let sorted = tested .before .before in
+    let seen = sorted .before .before .before in
+    answer-stuck (seen .let-view .ensures) t _ _ (sorted .toposort-assign-bindings .ensures k l w h bs b t) (omega arith) (tested .if2 .taken)
+    (lent .before .place-at .ensures ∙ ap place-at (numbered .number .ensures .0)) (c .before .before .stuck .ensures)
 
 returns-3 : tie.Need-returns-3
 returns-3 c = λ k l w h bs b t.
@@ -36,5 +47,18 @@ returns-3 c = λ k l w h bs b t.
 pub order-of-spec : {M : Type 1} → statement M
 order-of-spec =
     tie.close
-    (tie.spec (λ c κs. search needs) (λ c. search needs) (λ c κs. search needs) returns (λ c κs. search needs) number-requires stuck-requires ordered-requires (λ c. search needs) returns-2
-    (λ c. search needs) returns-3)
+    (tie.spec
+    (λ c κs. search needs)
+    (λ c. search needs)
+    (λ c κs. search needs)
+    (λ c κs. search needs)
+    returns
+    (λ c κs. search needs)
+    number-requires
+    (λ c κs. search needs)
+    stuck-requires
+    ordered-requires
+    (λ c. search needs)
+    returns-2
+    (λ c. search needs)
+    returns-3)

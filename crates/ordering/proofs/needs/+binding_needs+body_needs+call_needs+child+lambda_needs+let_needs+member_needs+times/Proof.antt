@@ -152,17 +152,17 @@ binding-needs-child-requires : (t : ℕ) → binding-needs-lts.Need-child-requir
 binding-needs-child-requires t c κs = (omega arith, (c .before .before .before .before .before .before .before .before .before .before .before .pre .1 .0, omega arith, omega arith))
 
 binding-needs-returns : (t : ℕ) → binding-needs-lts.Need-returns (binding-needs-calls t) (binding-needs-at t) binding-needs.Post
-binding-needs-returns t c = binding-reaches (c .before .before .before .before .before .before .before .before .before .past-head .ensures) (c .before .before .before .before .before .before .before .before .past-bytes .ensures) (c .before .before .before .before .before .before .pattern-needs .ensures) (c .before .before .child .ensures) (omega arith)
+binding-needs-returns t c = binding-reaches (c .before .before .before .before .before .before .before .before .before .past-head .ensures) (c .before .before .before .before .before .before .before .before .past-bytes .ensures .past) (c .before .before .before .before .before .before .pattern-needs .ensures) (c .before .before .child .ensures) (omega arith)
 
 body-needs-returns : (t : ℕ) → body-needs-lts.Need-returns (body-needs-calls t) (body-needs-at t) body-needs.Post
 body-needs-returns t c = body-lists (c .before .before .before .before .before .body-mark .ensures) (c .before .before .before .before .match .keys1) (c .before .before .let-needs .ensures)
 
 body-needs-returns-2 : (t : ℕ) → body-needs-lts.Need-returns-2 (body-needs-calls t) (body-needs-at t) body-needs.Post
 unfolding ascii
-body-needs-returns-2 t c = body-lists (c .before .before .before .before .before .before .before .before .before .before .before .body-mark .ensures) (c .before .before .before .before .before .before .before .before .before .before .match .keys2) (quote-reaches (c .before .before .before .before .past-bytes .ensures) (c .before .before .before .before .before .before .before .word .ensures) (c .before .before .child-sexp .ensures) (omega arith))
+body-needs-returns-2 t c = body-lists (c .before .before .before .before .before .before .before .before .before .before .before .body-mark .ensures) (c .before .before .before .before .before .before .before .before .before .before .match .keys2) (quote-reaches (c .before .before .before .before .past-bytes .ensures .past) (c .before .before .before .before .before .before .before .word .ensures) (c .before .before .child-sexp .ensures) (omega arith))
 
 body-needs-returns-3 : (t : ℕ) → body-needs-lts.Need-returns-3 (body-needs-calls t) (body-needs-at t) body-needs.Post
-body-needs-returns-3 t c = body-lists (c .before .before .before .before .before .before .body-mark .ensures) (c .before .before .before .before .before .match .keys3) (value-reaches (c .before .before .before .before .past-bytes2 .ensures) (c .before .before .child-sexp2 .ensures))
+body-needs-returns-3 t c = body-lists (c .before .before .before .before .before .before .body-mark .ensures) (c .before .before .before .before .before .match .keys3) (value-reaches (c .before .before .before .before .past-bytes2 .ensures .past) (c .before .before .child-sexp2 .ensures))
 
 body-needs-returns-4 : (t : ℕ) → body-needs-lts.Need-returns-4 (body-needs-calls t) (body-needs-at t) body-needs.Post
 body-needs-returns-4 t c = body-lists (c .before .before .before .before .before .body-mark .ensures) (c .before .before .before .before .match .keys4) (c .before .before .call-needs .ensures)
@@ -212,10 +212,10 @@ member-needs-returns-2 : (t : ℕ) → member-needs-lts.Need-returns-2 (member-n
 member-needs-returns-2 t c = rw (c .before .before .before .before .if1 .left) (lists-reaches (c .before .before .body-needs .ensures))
 
 abbrev times-Inv-loop : times-lts.InvT-loop
-times-Inv-loop a given s binding count at needs₀ n r₀ i₀ needs r i = (r .end ≤ length s) × (r .count ≤ length needs₀) × (length needs ≡ length needs₀) × Goes (member-part binding) (member-words binding) a given s at count needs₀ n i needs r
+times-Inv-loop a given s binding count needs₀ from i₀ needs r i = (r .end ≤ length s) × (r .count ≤ length needs₀) × (length needs ≡ length needs₀) × Goes (member-part binding) (member-words binding) a given s (from .end) count needs₀ (from .count) i needs r
 
 abbrev times-μ-loop : times-lts.MeasureT-loop
-times-μ-loop a given s binding count at needs₀ n r₀ i₀ needs r i = count - i
+times-μ-loop a given s binding count needs₀ from i₀ needs r i = count - i
 
 times-loop-holds : (t : ℕ) → times-lts.Need-loop-holds (times-calls t) (times-at t) times.Post times-Inv-loop times-μ-loop
 times-loop-holds t c = (omega arith, omega arith, refl, goes-first (omega arith))

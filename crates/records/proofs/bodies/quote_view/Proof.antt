@@ -5,7 +5,7 @@ use Rattle.records.proofs.bodies.quote_view.Statement.{statement}
 use Rattle.records.proofs.bodies.quote_view.Tie as tie
 
 returns : tie.Need-returns
-returns c = (sees-quote (c .past-bytes .ensures), sees-value (c .past-bytes .ensures))
+returns c = (sees-quote (c .past-bytes .ensures .past), sees-value (c .past-bytes .ensures .past))
 
 pub quote-view-spec : {M : Type 1} → statement M
 quote-view-spec = tie.close (tie.spec (λ c κs. search needs) returns)

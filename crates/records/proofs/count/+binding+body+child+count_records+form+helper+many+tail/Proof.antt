@@ -154,11 +154,11 @@ abbrev tail-calls : ℕ → tail-lts.Claims
 tail-calls t = (past-bytes-reads.Asked, past-bytes-reads.Learnt, byte-at-reads.Asked, byte-at-reads.Learnt, child-below t, child.Post)
 
 binding-returns : (t : ℕ) → binding-lts.Need-returns (binding-calls t) (binding-at t) binding.Post
-binding-returns t c = record { within = omega arith; few = omega arith; counts = binding-told (c .before .before .before .past-bytes .ensures) (c .before .before .past-bytes2 .ensures) (c .before .pattern .ensures) (c .child .ensures) }
+binding-returns t c = record { within = omega arith; few = omega arith; counts = binding-told (c .before .before .before .past-bytes .ensures .past) (c .before .before .past-bytes2 .ensures .past) (c .before .pattern .ensures) (c .child .ensures) }
 
 body-returns : (t : ℕ) → body-lts.Need-returns (body-calls t) (body-at t) body.Post
 unfolding BodyOf
-body-returns t c = body-counts (omega arith) (omega arith) (sym (c .before .before .before .before .before .before .match .keys1) ∙ c .before .before .before .before .before .before .before .before .body-mark .ensures) (let-told (c .before .before .before .before .before .past-bytes2 .ensures) (c .before .before .before .before .past-bytes3 .ensures) (c .before .before .before .past-keyword .ensures) (c .before .before .past-hint .ensures) (c .before .many .ensures) (c .child .ensures))
+body-returns t c = body-counts (omega arith) (omega arith) (sym (c .before .before .before .before .before .before .match .keys1) ∙ c .before .before .before .before .before .before .before .before .body-mark .ensures) (let-told (c .before .before .before .before .before .past-bytes2 .ensures .past) (c .before .before .before .before .past-bytes3 .ensures .past) (c .before .before .before .past-keyword .ensures) (c .before .before .past-hint .ensures) (c .before .many .ensures) (c .child .ensures))
 
 body-returns-2 : (t : ℕ) → body-lts.Need-returns-2 (body-calls t) (body-at t) body.Post
 unfolding BodyOf
@@ -170,15 +170,15 @@ body-returns-3 t c = body-counts (omega arith) (omega arith) (sym (c .before .ma
 
 body-returns-4 : (t : ℕ) → body-lts.Need-returns-4 (body-calls t) (body-at t) body.Post
 unfolding BodyOf
-body-returns-4 t c = body-counts (omega arith) (omega arith) (sym (c .before .before .match .keys4) ∙ c .before .before .before .before .body-mark .ensures) (call-told (c .before .before .before .past-bytes .ensures) (c .before .many2 .ensures) (c .tail .ensures))
+body-returns-4 t c = body-counts (omega arith) (omega arith) (sym (c .before .before .match .keys4) ∙ c .before .before .before .before .body-mark .ensures) (call-told (c .before .before .before .past-bytes .ensures .past) (c .before .many2 .ensures) (c .tail .ensures))
 
 body-returns-5 : (t : ℕ) → body-lts.Need-returns-5 (body-calls t) (body-at t) body.Post
 unfolding BodyOf
-body-returns-5 t c = body-counts (omega arith) (omega arith) (sym (c .before .match .keys5) ∙ c .before .before .before .body-mark .ensures) (mod-told (c .before .before .past-bytes .ensures) (c .child2 .ensures))
+body-returns-5 t c = body-counts (omega arith) (omega arith) (sym (c .before .match .keys5) ∙ c .before .before .before .body-mark .ensures) (mod-told (c .before .before .past-bytes .ensures .past) (c .child2 .ensures))
 
 body-returns-6 : (t : ℕ) → body-lts.Need-returns-6 (body-calls t) (body-at t) body.Post
 unfolding BodyOf
-body-returns-6 t c = body-counts (omega arith) (omega arith) (sym (c .before .before .before .before .before .match .keys6) ∙ c .before .before .before .before .before .before .before .body-mark .ensures) (lambda-told (c .before .before .before .before .before .before .past-bytes .ensures) (c .before .before .before .before .past-keyword2 .ensures) (c .before .before .before .child-sexp3 .ensures) (c .before .before .child3 .ensures) (c .before .child-sexp4 .ensures) (c .child4 .ensures))
+body-returns-6 t c = body-counts (omega arith) (omega arith) (sym (c .before .before .before .before .before .match .keys6) ∙ c .before .before .before .before .before .before .before .body-mark .ensures) (lambda-told (c .before .before .before .before .before .before .past-bytes .ensures .past) (c .before .before .before .before .past-keyword2 .ensures) (c .before .before .before .child-sexp3 .ensures) (c .before .before .child3 .ensures) (c .before .child-sexp4 .ensures) (c .child4 .ensures))
 
 body-returns-7 : (t : ℕ) → body-lts.Need-returns-7 (body-calls t) (body-at t) body.Post
 unfolding BodyOf
@@ -203,27 +203,27 @@ count-records-returns-5 : (t : ℕ) → count-records-lts.Need-returns-5 (count-
 count-records-returns-5 t c = rw (c .before .enum-told4 .given .1) (c .form .ensures)
 
 form-returns : (t : ℕ) → form-lts.Need-returns (form-calls t) (form-at t) form.Post
-form-returns t c = record { within = omega arith; few = omega arith; counts = form-told (c .before .before .before .before .past-bytes .ensures) (c .before .before .before .past-raw .ensures) (c .before .before .child-sexp .ensures) (c .before .many .ensures) (c .child .ensures) }
+form-returns t c = record { within = omega arith; few = omega arith; counts = form-told (c .before .before .before .before .past-bytes .ensures .past) (c .before .before .before .past-raw .ensures) (c .before .before .child-sexp .ensures) (c .before .many .ensures) (c .child .ensures) }
 
 helper-returns : (t : ℕ) → helper-lts.Need-returns (helper-calls t) (helper-at t) helper.Post
 unfolding HelperOf
-helper-returns t c = helper-counts (omega arith) (omega arith) (sym (c .before .before .match .keys1) ∙ c .before .before .before .before .helper-mark .ensures) (constant-told (c .before .before .before .past-bytes .ensures) (c .before .named .ensures) (c .child .ensures))
+helper-returns t c = helper-counts (omega arith) (omega arith) (sym (c .before .before .match .keys1) ∙ c .before .before .before .before .helper-mark .ensures) (constant-told (c .before .before .before .past-bytes .ensures .past) (c .before .named .ensures) (c .child .ensures))
 
 helper-returns-2 : (t : ℕ) → helper-lts.Need-returns-2 (helper-calls t) (helper-at t) helper.Post
 unfolding HelperOf
-helper-returns-2 t c = helper-counts (omega arith) (omega arith) (sym (c .before .before .before .match .keys2) ∙ c .before .before .before .before .before .helper-mark .ensures) (macro-told (c .before .before .before .before .past-bytes .ensures) (c .before .before .named2 .ensures) (c .before .child-sexp .ensures) (c .child2 .ensures))
+helper-returns-2 t c = helper-counts (omega arith) (omega arith) (sym (c .before .before .before .match .keys2) ∙ c .before .before .before .before .before .helper-mark .ensures) (macro-told (c .before .before .before .before .past-bytes .ensures .past) (c .before .before .named2 .ensures) (c .before .child-sexp .ensures) (c .child2 .ensures))
 
 helper-returns-3 : (t : ℕ) → helper-lts.Need-returns-3 (helper-calls t) (helper-at t) helper.Post
 unfolding HelperOf
-helper-returns-3 t c = helper-counts (omega arith) (omega arith) (sym (c .before .before .before .before .match .keys3) ∙ c .before .before .before .before .before .before .helper-mark .ensures) (function-told (c .before .before .before .before .before .past-bytes .ensures) (c .before .before .before .past-bytes2 .ensures) (c .before .before .named3 .ensures) (c .before .child-sexp2 .ensures) (c .child3 .ensures))
+helper-returns-3 t c = helper-counts (omega arith) (omega arith) (sym (c .before .before .before .before .match .keys3) ∙ c .before .before .before .before .before .before .helper-mark .ensures) (function-told (c .before .before .before .before .before .past-bytes .ensures .past) (c .before .before .before .past-bytes2 .ensures .past) (c .before .before .named3 .ensures) (c .before .child-sexp2 .ensures) (c .child3 .ensures))
 
 helper-returns-4 : (t : ℕ) → helper-lts.Need-returns-4 (helper-calls t) (helper-at t) helper.Post
 unfolding HelperOf
-helper-returns-4 t c = helper-counts (omega arith) (omega arith) (sym (c .before .before .match .keys4) ∙ c .before .before .before .before .helper-mark .ensures) (namespace-told (c .before .before .before .past-bytes .ensures) (c .before .named4 .ensures) (c .many .ensures))
+helper-returns-4 t c = helper-counts (omega arith) (omega arith) (sym (c .before .before .match .keys4) ∙ c .before .before .before .before .helper-mark .ensures) (namespace-told (c .before .before .before .past-bytes .ensures .past) (c .before .named4 .ensures) (c .many .ensures))
 
 helper-returns-5 : (t : ℕ) → helper-lts.Need-returns-5 (helper-calls t) (helper-at t) helper.Post
 unfolding HelperOf
-helper-returns-5 t c = helper-counts (omega arith) (omega arith) (sym (c .before .match .keys5) ∙ c .before .before .before .helper-mark .ensures) (reference-told (c .before .before .past-bytes .ensures) (c .named5 .ensures))
+helper-returns-5 t c = helper-counts (omega arith) (omega arith) (sym (c .before .match .keys5) ∙ c .before .before .before .helper-mark .ensures) (reference-told (c .before .before .past-bytes .ensures .past) (c .named5 .ensures))
 
 helper-returns-6 : (t : ℕ) → helper-lts.Need-returns-6 (helper-calls t) (helper-at t) helper.Post
 unfolding HelperOf
@@ -240,7 +240,7 @@ abbrev many-μ-loop : many-lts.MeasureT-loop
 many-μ-loop family s at n d₀ i₀ d i = n - i
 
 many-loop-holds : (t : ℕ) → many-lts.Need-loop-holds (many-calls t) (many-at t) many.Post many-Inv-loop many-μ-loop
-many-loop-holds t c = (omega arith, c .past-bytes .ensures .onward, begun-past (c .before .before .before .pre .1) (c .past-bytes .ensures), rest-first (c .before .byte-at .ensures) (c .past-bytes .ensures))
+many-loop-holds t c = (omega arith, c .past-bytes .ensures .past .onward, begun-past (c .before .before .before .pre .1) (c .past-bytes .ensures .past), rest-first (c .before .byte-at .ensures) (c .past-bytes .ensures .past))
 
 many-loop-again : (t : ℕ) → many-lts.Need-loop-again (many-calls t) (many-at t) many.Post many-Inv-loop many-μ-loop
 many-loop-again t c = (omega arith, omega arith, search needs, λ ts v a. rest-step (c .before .before .loop .inv .3 ts v a) (c .before .loop-test .taken) (c .child .ensures))
@@ -249,10 +249,10 @@ many-returns : (t : ℕ) → many-lts.Need-returns (many-calls t) (many-at t) ma
 many-returns t c = record { onward = c .before .loop .inv .1; within = c .before .loop .inv .2 .within; few = c .before .loop .inv .2 .few; adds = λ ts v a. rest-none (c .before .loop .inv .3 ts v a) (c .loop-test .left) }
 
 tail-returns : (t : ℕ) → tail-lts.Need-returns (tail-calls t) (tail-at t) tail.Post
-tail-returns t c = no-tail-adds (c .before .byte-at .ensures) (c .before .before .past-bytes .ensures) (c .before .before .before .before .pre .1) (c .if1 .taken)
+tail-returns t c = no-tail-adds (c .before .byte-at .ensures) (c .before .before .past-bytes .ensures .past) (c .before .before .before .before .pre .1) (c .if1 .taken)
 
 tail-returns-2 : (t : ℕ) → tail-lts.Need-returns-2 (tail-calls t) (tail-at t) tail.Post
-tail-returns-2 t c = tail-adds (c .before .before .byte-at .ensures) (c .before .before .before .past-bytes .ensures) (c .before .if1 .left) (c .child .ensures)
+tail-returns-2 t c = tail-adds (c .before .before .byte-at .ensures) (c .before .before .before .past-bytes .ensures .past) (c .before .if1 .left) (c .child .ensures)
 
 pub +binding+body+child+count-records+form+helper+many+tail-spec : {M : Type 1} → statement M
 +binding+body+child+count-records+form+helper+many+tail-spec =

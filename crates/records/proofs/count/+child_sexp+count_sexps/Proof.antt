@@ -3,10 +3,11 @@ use Prim.Native.Nat.{ℕ, _<_, _+_, _*_}
 use native.Mathlib.Omega.{arith}
 use borrow.Author.Needs.{needs}
 use lib.ListN.{length}
-use mathlib.Core.Path.{sym, _∙_}
-use Rattle.records.proofs.SexpLaws.{none-of-five}
+use Rattle.records.specs.Views.{SeesSexp}
+use Rattle.records.specs.declared.SexpView.the-variants.{Pair}
 use Rattle.records.proofs.Runs.{child-adds}
-use Rattle.records.proofs.CountLaws.{SexpOf, sexp-long, too-few, sexp-counts, nil-told, cons-told, integer-told, quoted-told, atom-told}
+use Rattle.records.proofs.AnySexp.{integer, text, name}
+use Rattle.records.proofs.CountLaws.{nil-counts, pair-counts, leaf-counts, no-counts}
 use borrow.Fn.Kinds.{In}
 use borrow.Fn.PlainCycle.{Measures, is, falls, and}
 use Rattle.records.proofs.count.child_sexp.Reads as child-sexp
@@ -15,10 +16,7 @@ use Rattle.records.proofs.count.+child_sexp+count_sexps.Lts-child_sexp 
 use Rattle.records.proofs.count.count_sexps.Reads as count-sexps
 use Rattle.records.proofs.count.count_sexps.Kinds as count-sexps-kinds
 use Rattle.records.proofs.count.+child_sexp+count_sexps.Lts-count_sexps as count-sexps-lts
-use Rattle.records.proofs.sexp.sexp_mark.Reads as sexp-mark-reads
-use Rattle.records.proofs.past.past_bytes.Reads as past-bytes-reads
-use Rattle.records.proofs.past.past_integer.Reads as past-integer-reads
-use Rattle.records.proofs.past.past_name.Reads as past-name-reads
+use Rattle.records.proofs.sexps.sexp_view.Reads as sexp-view-reads
 use Rattle.records.proofs.count.+child_sexp+count_sexps.{statement}
 use Rattle.records.proofs.count.+child_sexp+count_sexps.Tie.{close}
 
@@ -47,8 +45,8 @@ count-sexps-below t =
 abbrev child-sexp-calls : ℕ → child-sexp-lts.Claims
 child-sexp-calls t = (count-sexps-below t, count-sexps.Post)
 
-abbrev count-sexps-calls : ℕ → count-sexps-lts.Claims
-count-sexps-calls t = (sexp-mark-reads.Asked, sexp-mark-reads.Learnt, past-bytes-reads.Asked, past-bytes-reads.Learnt, child-sexp-below t, child-sexp.Post, past-integer-reads.Asked, past-integer-reads.Learnt, past-name-reads.Asked, past-name-reads.Learnt)
+abbrev calls : ℕ → count-sexps-lts.Claims
+calls t = (sexp-view-reads.Asked, sexp-view-reads.Learnt, child-sexp-below t, child-sexp.Post)
 
 child-sexp-returns :
     (t : ℕ) →
@@ -58,32 +56,42 @@ child-sexp-returns :
     child-sexp.Post
 child-sexp-returns t c = child-adds (c .before .before .before .before .before .before .pre .1) (c .before .before .before .count-sexps .ensures)
 
-count-sexps-returns : (t : ℕ) → count-sexps-lts.Need-returns (count-sexps-calls t) (count-sexps-at t) count-sexps.Post
-count-sexps-returns t c = too-few sexp-long (c .if1 .taken)
+module _ (t : ℕ) where
+  -- where the view is an SC's
+  abbrev AtPair : Type 0
+  AtPair = count-sexps-lts.After-v2 (calls t) (count-sexps-at t) count-sexps.Post
 
-count-sexps-returns-2 : (t : ℕ) → count-sexps-lts.Need-returns-2 (count-sexps-calls t) (count-sexps-at t) count-sexps.Post
-unfolding SexpOf
-count-sexps-returns-2 t c = sexp-counts (omega arith) (omega arith) (sym (c .match .keys1) ∙ c .before .before .sexp-mark .ensures) (nil-told (c .before .past-bytes .ensures))
+  paired : (c : AtPair) → let d = c .before .before in SeesSexp (d .before .before .args .s .now) (Pair (c .v2 .given .0 .0))
+  paired c = rw (c .v2 .given .1) at (c .before .before .sexp-view .ensures)
 
-count-sexps-returns-3 : (t : ℕ) → count-sexps-lts.Need-returns-3 (count-sexps-calls t) (count-sexps-at t) count-sexps.Post
-unfolding SexpOf
-count-sexps-returns-3 t c = sexp-counts (omega arith) (omega arith) (sym (c .before .before .match .keys2) ∙ c .before .before .before .before .sexp-mark .ensures) (cons-told (c .before .before .before .past-bytes .ensures) (c .before .child-sexp .ensures) (c .child-sexp2 .ensures))
+  requires : count-sexps-lts.Need-child-sexp-requires (calls t) (count-sexps-at t) count-sexps.Post
+  requires c κs =
+      let p = paired (c .before) .places in
+      (omega arith, record { started = p .0; within = p .1; few = p .0 })
 
-count-sexps-returns-4 : (t : ℕ) → count-sexps-lts.Need-returns-4 (count-sexps-calls t) (count-sexps-at t) count-sexps.Post
-unfolding SexpOf
-count-sexps-returns-4 t c = sexp-counts (omega arith) (omega arith) (sym (c .before .match .keys3) ∙ c .before .before .before .sexp-mark .ensures) (integer-told (c .before .before .past-bytes .ensures) (c .past-integer .ensures))
+  requires-2 : count-sexps-lts.Need-child-sexp-requires-2 (calls t) (count-sexps-at t) count-sexps.Post
+  requires-2 c κs =
+      let h = c .child-sexp .ensures in
+      let p = paired (c .before .before) .places in
+      (omega arith, record { started = omega (arith, p .0, h .onward); within = h .within; few = h .few })
 
-count-sexps-returns-5 : (t : ℕ) → count-sexps-lts.Need-returns-5 (count-sexps-calls t) (count-sexps-at t) count-sexps.Post
-unfolding SexpOf
-count-sexps-returns-5 t c = sexp-counts (omega arith) (omega arith) (sym (c .before .before .match .keys4) ∙ c .before .before .before .before .sexp-mark .ensures) (quoted-told (c .before .before .before .past-bytes .ensures) (c .before .past-bytes2 .ensures) (c .past-name .ensures))
+  returns : count-sexps-lts.Need-returns (calls t) (count-sexps-at t) count-sexps.Post
+  returns c = let d = c .before in nil-counts (rw (d .v .given .1) at (d .before .before .sexp-view .ensures))
 
-count-sexps-returns-6 : (t : ℕ) → count-sexps-lts.Need-returns-6 (count-sexps-calls t) (count-sexps-at t) count-sexps.Post
-unfolding SexpOf
-count-sexps-returns-6 t c = sexp-counts (omega arith) (omega arith) (sym (c .before .match .keys5) ∙ c .before .before .before .sexp-mark .ensures) (atom-told (c .before .before .past-bytes .ensures) (c .past-name2 .ensures))
+  returns-2 : count-sexps-lts.Need-returns-2 (calls t) (count-sexps-at t) count-sexps.Post
+  returns-2 c = let h = c .before in pair-counts (paired (h .before .before)) (h .child-sexp .ensures) (c .child-sexp2 .ensures)
 
-count-sexps-returns-7 : (t : ℕ) → count-sexps-lts.Need-returns-7 (count-sexps-calls t) (count-sexps-at t) count-sexps.Post
-unfolding SexpOf
-count-sexps-returns-7 t c = sexp-counts (omega arith) (omega arith) (none-of-five _ (c .before .before .sexp-mark .ensures) (c .match .rest)) tt
+  returns-3 : count-sexps-lts.Need-returns-3 (calls t) (count-sexps-at t) count-sexps.Post
+  returns-3 c = no-counts (rw (c .enum-told .given .1) at (c .before .before .sexp-view .ensures))
+
+  returns-4 : count-sexps-lts.Need-returns-4 (calls t) (count-sexps-at t) count-sexps.Post
+  returns-4 c = let d = c .before in leaf-counts integer (rw (d .v3 .given .1) at (d .before .before .sexp-view .ensures))
+
+  returns-5 : count-sexps-lts.Need-returns-5 (calls t) (count-sexps-at t) count-sexps.Post
+  returns-5 c = let d = c .before in leaf-counts text (rw (d .v4 .given .1) at (d .before .before .sexp-view .ensures))
+
+  returns-6 : count-sexps-lts.Need-returns-6 (calls t) (count-sexps-at t) count-sexps.Post
+  returns-6 c = let d = c .before in leaf-counts name (rw (d .v5 .given .1) at (d .before .before .sexp-view .ensures))
 
 pub +child-sexp+count-sexps-spec : {M : Type 1} → statement M
 +child-sexp+count-sexps-spec =
@@ -92,7 +100,6 @@ pub +child-sexp+count-sexps-spec : {M : Type 1} → statement M
     μ-count-sexps
     (λ t. child-sexp-lts.spec (child-sexp-calls t) (child-sexp-at t) child-sexp.Post (λ c. search needs) (λ c. search needs) (λ c. search needs)
     (λ c κs. search needs) (λ c. search needs) (λ c. search needs) (child-sexp-returns t))
-    λ t. count-sexps-lts.spec (count-sexps-calls t) (count-sexps-at t) count-sexps.Post (count-sexps-returns t) (λ c κs. search needs)
-    (λ c κs. search needs) (λ c κs. search needs) (λ c κs. search needs) (λ c κs. search needs) (λ c κs. search needs) (λ c κs. search needs)
-    (λ c κs. search needs) (count-sexps-returns-2 t) (count-sexps-returns-3 t) (count-sexps-returns-4 t) (count-sexps-returns-5 t)
-    (count-sexps-returns-6 t) (count-sexps-returns-7 t)
+    λ t. count-sexps-lts.spec (calls t) (count-sexps-at t) count-sexps.Post (λ c κs. search needs) (λ c. search needs) (λ c. search needs)
+    (requires t) (requires-2 t) (λ c. search needs) (λ c. search needs) (λ c. search needs) (λ c. search needs)
+    (returns t) (returns-2 t) (returns-3 t) (returns-4 t) (returns-5 t) (returns-6 t)

@@ -5,10 +5,10 @@ use Rattle.records.proofs.count.pattern.Statement.{statement}
 use Rattle.records.proofs.count.pattern.Tie as tie
 
 returns : tie.Need-returns
-returns c = name-adds (c .before .before .byte-at .ensures) (c .before .before .before .past-bytes .ensures) (c .before .before .before .before .before .pre) (c .before .if1 .taken) (c .past-name .ensures)
+returns c = name-adds (c .before .before .byte-at .ensures) (c .before .before .before .past-bytes .ensures .past) (c .before .before .before .before .before .pre) (c .before .if1 .taken) (c .past-name .ensures)
 
 returns-2 : tie.Need-returns-2
-returns-2 c = complex-adds (c .before .before .byte-at .ensures) (c .before .before .before .past-bytes .ensures) (c .before .if1 .left) (c .child-sexp .ensures)
+returns-2 c = complex-adds (c .before .before .byte-at .ensures) (c .before .before .before .past-bytes .ensures .past) (c .before .if1 .left) (c .child-sexp .ensures)
 
 pub pattern-spec : {M : Type 1} → statement M
 pattern-spec = tie.close (tie.spec (λ c κs. search needs) (λ c κs. search needs) (λ c κs. search needs) returns (λ c κs. search needs) returns-2)

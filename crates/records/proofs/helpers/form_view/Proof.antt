@@ -10,7 +10,7 @@ returns c = sees-form
     (c .before .before .before .past-raw .ensures)
     (c .before .before .past-sexp .ensures)
     (c .before .byte-at .ensures)
-    (c .past-bytes .ensures)
+    (c .past-bytes .ensures .past)
 
 pub form-view-spec : {M : Type 1} → statement M
 form-view-spec = tie.close (tie.spec (λ c κs. search needs) (λ c κs. search needs) (λ c κs. search needs) (λ c κs. search needs) (λ c κs. search needs) returns)

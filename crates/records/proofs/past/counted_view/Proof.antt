@@ -6,10 +6,10 @@ use Rattle.records.proofs.past.counted_view.Statement.{statement}
 use Rattle.records.proofs.past.counted_view.Tie as tie
 
 returns : tie.Need-returns
-returns c = sees-none _ _ (omega arith)
+returns c = sees-none _ _ (omega arith) (omega arith)
 
 returns-2 : tie.Need-returns-2
-returns-2 c = sees-none _ _ (omega arith)
+returns-2 c = sees-none _ _ (omega arith) (omega arith)
 
 returns-3 : tie.Need-returns-3
 returns-3 c = sees-counted _ _ (c .before .number .ensures .0) (omega arith)

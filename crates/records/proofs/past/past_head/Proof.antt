@@ -1,5 +1,4 @@
 -- `crate::past::past_head` meets its contract. Assumes nothing.
-use borrow.Author.Needs.{needs}
 use native.Mathlib.Omega.{arith}
 use Rattle.records.proofs.Views.{head-short, head-there}
 use Rattle.records.proofs.past.past_head.Statement.{statement}
@@ -12,4 +11,4 @@ returns-2 : tie.Need-returns-2
 returns-2 c = head-there (omega arith)
 
 pub past-head-spec : {M : Type 1} → statement M
-past-head-spec = tie.close (tie.spec (λ c. search needs) returns returns-2)
+past-head-spec = tie.close (tie.spec returns returns-2)

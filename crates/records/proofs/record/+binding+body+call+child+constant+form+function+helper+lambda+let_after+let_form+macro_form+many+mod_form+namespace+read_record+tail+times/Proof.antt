@@ -409,6 +409,13 @@ form-returns-2 : (t : ℕ) → form-lts.Need-returns-2 (form-calls t) (form-at t
 unfolding ascii
 form-returns-2 t c = rw (c .refused2 .ensures) (form-deep (c .before .before .before .before .before .before .before .before .pre .1 .0 .0) (c .before .before .before .before .before .before .bytes .ensures) (c .before .before .before .before .before .before .before .before .pre .1 .0 .1) (c .before .if2 .taken) (sym (c .before .before .before .before .is-word .ensures) ∙ not-false _ (c .before .before .before .if1 .left)))
 
+form-child-sexp-requires : (t : ℕ) → form-lts.Need-child-sexp-requires (form-calls t) (form-at t) form.Post
+form-child-sexp-requires t c κs =
+    let down = c .before .before in
+    let tested = down .before .before .before in
+    let read = tested .before .before .before in
+    (c .raw .ensures .within, omega (arith, read .before .before .pre .1 .1))
+
 form-many-requires : (t : ℕ) → form-lts.Need-many-requires (form-calls t) (form-at t) form.Post
 form-many-requires t c κs = (omega (arith, ap room (c .before .before .before .down .ensures), c .before .before .before .before .if2 .left, c .before .before .before .before .before .before .before .before .before .before .before .pre .0), (c .child-sexp .ensures .within, omega (arith, ap mark (c .before .before .before .down .ensures), c .before .before .before .before .before .before .before .before .before .before .before .pre .1 .1)))
 
@@ -466,6 +473,13 @@ lambda-returns t c = goes-refused _ (c .before .before .before .pre .1 .0) (c .i
 
 lambda-returns-2 : (t : ℕ) → lambda-lts.Need-returns-2 (lambda-calls t) (lambda-at t) lambda.Post
 lambda-returns-2 t c = rw (c .refused .ensures) (goes-no-lambda (c .before .before .before .before .before .before .pre .1 .0) (c .before .if2 .taken) (c .before .before .before .if1 .left))
+
+lambda-child-requires : (t : ℕ) → lambda-lts.Need-child-requires (lambda-calls t) (lambda-at t) lambda.Post
+lambda-child-requires t c κs =
+    let down = c .before .before .before in
+    let tested = down .before .before .before in
+    let p = tested .before .before .before .pre in
+    (omega (arith, p .0), (c .child-sexp .ensures .within, omega (arith, p .1 .1)))
 
 lambda-child-sexp-requires-2 : (t : ℕ) → lambda-lts.Need-child-sexp-requires-2 (lambda-calls t) (lambda-at t) lambda.Post
 lambda-child-sexp-requires-2 t c κs = (c .child .ensures .within, omega (arith, c .before .before .before .before .before .before .before .before .before .before .pre .1 .1))
@@ -718,7 +732,7 @@ pub +binding+body+call+child+constant+form+function+helper+lambda+let-after+let-
     (λ c κs. search needs)
     (λ c κs. search needs)
     (λ c κs. search needs)
-    (λ c κs. search needs)
+    (form-child-sexp-requires t)
     (form-many-requires t)
     (form-child-requires t)
     (form-returns-3 t))
@@ -762,7 +776,7 @@ pub +binding+body+call+child+constant+form+function+helper+lambda+let-after+let-
     (λ c κs. search needs)
     (λ c κs. search needs)
     (λ c κs. search needs)
-    (λ c κs. search needs)
+    (lambda-child-requires t)
     (lambda-child-sexp-requires-2 t)
     (lambda-child-requires-2 t)
     (lambda-returns-3 t))

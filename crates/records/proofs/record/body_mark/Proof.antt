@@ -1,35 +1,43 @@
--- `records::record::body_mark` meets its contract. Assumes nothing.
-use mathlib.Core.Path.{refl, sym, _∙_}
+-- `records::record::body_mark` meets its contract: each mark has its place in the table of them. Assumes nothing.
 use borrow.Author.Needs.{needs}
-use Rattle.names.specs.Names.{ascii}
-use Rattle.records.specs.Scan.{body-marks}
-use Rattle.records.proofs.RecordLaws.{body-place, index-past}
+use native.Mathlib.Omega.{arith}
+use mathlib.Core.Path.{_≡_, sym, _∙_}
+use Prim.Native.Nat.{ℕ, _<_}
+use mathlib.Core.Bool.{true}
+use lib.ListN.{length, getD}
+use Rattle.names.specs.Names.{Bytes, ascii, same}
+use Rattle.records.specs.Scan.{mark-index, body-marks}
+use Rattle.records.proofs.RecordLaws.{place-of, index-past}
 use Rattle.records.proofs.record.body_mark.Statement.{statement}
 use Rattle.records.proofs.record.body_mark.Tie as tie
 
+place : (x : Bytes) (k : ℕ) → k < length body-marks → same x (ascii (getD body-marks k "")) ≡ true → k ≡ mark-index x body-marks
+unfolding mark-index ascii same
+place = place-of body-marks tt
+
 returns : tie.Need-returns
 unfolding ascii
-returns c = body-place _ 2 refl (sym (c .before .is-word .ensures) ∙ c .if1 .taken)
+returns c = place _ 2 (omega arith) (sym (c .before .is-word .ensures) ∙ c .if1 .taken)
 
 returns-2 : tie.Need-returns-2
 unfolding ascii
-returns-2 c = body-place _ 3 refl (sym (c .before .is-word2 .ensures) ∙ c .if2 .taken)
+returns-2 c = place _ 3 (omega arith) (sym (c .before .is-word2 .ensures) ∙ c .if2 .taken)
 
 returns-3 : tie.Need-returns-3
 unfolding ascii
-returns-3 c = body-place _ 1 refl (sym (c .before .is-word3 .ensures) ∙ c .if3 .taken)
+returns-3 c = place _ 1 (omega arith) (sym (c .before .is-word3 .ensures) ∙ c .if3 .taken)
 
 returns-4 : tie.Need-returns-4
 unfolding ascii
-returns-4 c = body-place _ 0 refl (sym (c .before .is-word4 .ensures) ∙ c .if4 .taken)
+returns-4 c = place _ 0 (omega arith) (sym (c .before .is-word4 .ensures) ∙ c .if4 .taken)
 
 returns-5 : tie.Need-returns-5
 unfolding ascii
-returns-5 c = body-place _ 5 refl (sym (c .before .is-word5 .ensures) ∙ c .if5 .taken)
+returns-5 c = place _ 5 (omega arith) (sym (c .before .is-word5 .ensures) ∙ c .if5 .taken)
 
 returns-6 : tie.Need-returns-6
 unfolding ascii
-returns-6 c = body-place _ 4 refl (sym (c .before .is-word6 .ensures) ∙ c .if6 .taken)
+returns-6 c = place _ 4 (omega arith) (sym (c .before .is-word6 .ensures) ∙ c .if6 .taken)
 
 returns-7 : tie.Need-returns-7
 unfolding ascii

@@ -1,89 +1,62 @@
--- `walk::desugar::desugar_sequential_let_bindings` meets its contract. Assumes nothing.
+-- `crate::desugar::desugar_sequential_let_bindings` meets its contract. Assumes nothing.
 use borrow.Author.Needs.{needs}
 use native.Mathlib.Omega.{arith}
-use Prim.Native.Nat.{_-_}
-use lib.ListN.{length}
-use Rattle.names.proofs.Parts.{part-length}
-use Rattle.walk.proofs.DesugarLaws.{Let, let-of-view, let-left, let-refused, let-done, let-read}
+use Rattle.walk.proofs.DesugarLaws.{let-low, let-asks, let-refused, let-done, let-read}
 use Rattle.walk.proofs.desugar.desugar_sequential_let_bindings.Statement.{statement}
 use Rattle.walk.proofs.desugar.desugar_sequential_let_bindings.Tie as tie
 
--- the let at the start
-here : (c : tie.After-let-view) → Let (c .before .before .before .args .mem .now) (c .let-view .result) (c .before .before .before .pre .0 .0)
-here c = let p = c .before .before .before .pre .0 in let-of-view (c .let-view .ensures) (p .0) (p .2) (p .1 .fields) (p .1 .there)
+-- from a place back to an earlier one
+abbrev start : tie.After-let-view → tie.Start
+start c = c .before .before .before
 
-let-view-requires : tie.Need-let-view-requires
-let-view-requires c κs = search needs
+abbrev viewed : tie.After-nested → tie.After-let-view
+viewed c = c .before .before .before
 
-sub-nested : tie.Need-sub-nested
-sub-nested c = search needs
+abbrev refused : tie.After-known-told → tie.After-nested
+refused c = c .before .before .before .before .before
 
-part-nested-start : tie.Need-part-nested-start
-part-nested-start c = search needs
+abbrev made : tie.After-known-told2 → tie.After-nested
+made c = c .before .before .before .before .before
 
-part-nested-end : tie.Need-part-nested-end
-part-nested-end c = search needs
-
-sub-nested-2 : tie.Need-sub-nested-2
-sub-nested-2 c = omega (arith, here (c .before) .size, c .before .before .before .before .pre .0 .1 .below)
+sub-t17 : tie.Need-sub-t17
+sub-t17 c = let v = c .before .before in omega (arith, let-low (v .let-view .ensures) (start v .pre))
 
 nested-requires : tie.Need-nested-requires
-nested-requires c κs =
-    let v = here (c .before) in
-    let p = c .before .before .before .before .pre in
-    let mem = c .before .before .before .before .args .mem .now in
-    let at = c .before .let-view .result .first in
-    let l = part-length mem at (length mem - at) (omega (arith, v .there .fits)) in
-    ((v .bs, v .b, v .count, let-left v (p .0 .1 .below)), omega (arith, v .size, p .0 .1 .below, p .1))
+nested-requires c κs = let v = c .before .before in let-asks (v .let-view .ensures) (start v .pre)
 
-enum-known-k : tie.Need-enum-known-k
-enum-known-k c = search needs
-
-enum-known-r : tie.Need-enum-known-r
-enum-known-r c = search needs
-
-add-t22 : tie.Need-add-t22
-add-t22 c =
-    let d = c .before .before .before .before .before in
-    let s = d .before .before .before .before .before in
-    let n = let-read (s .args .counter) (d .before .before .let-view .ensures) (d .nested .ensures) (s .pre .1) (here (d .before .before))
-    (s .pre .0 .1 .below) _ _ _ (c .before .r .given .1) in
-    omega (arith, s .pre .0 .1 .below, s .good)
-
-same-length : tie.Need-same-length
-same-length c = search needs
+add-t20 : tie.Need-add-t20
+add-t20 c =
+    let e = made c in
+    let v = viewed e in
+    let s = start v in
+    omega (arith, let-read (v .let-view .ensures) (s .pre) (e .nested .ensures) _ _ _ (c .before .r .given .1), s .pre .room, s .good)
 
 returns : tie.Need-returns
 returns c =
-    let d = c .before .before .before .before .before in
-    let s = d .before .before .before .before .before in
-    let-refused (s .args .counter) (d .before .before .let-view .ensures) (d .nested .ensures) (s .pre .1) (here (d .before .before))
-    (s .pre .0 .1 .below) _ _ (c .before .k .given .1)
-
-same-length-2 : tie.Need-same-length-2
-same-length-2 c = search needs
+    let e = refused c in
+    let v = viewed e in
+    let-refused (v .let-view .ensures) (start v .pre) (e .nested .ensures) _ (c .before .refusal .given .1)
 
 returns-2 : tie.Need-returns-2
 returns-2 c =
-    let d = c .before .before .before .before .before in
-    let s = d .before .before .before .before .before in
-    let-done (s .args .counter) (d .before .before .let-view .ensures) (d .nested .ensures) (s .pre .1) (here (d .before .before))
-    (s .pre .0 .1 .below) _ _ _ (c .before .r .given .1)
+    let e = made c in
+    let v = viewed e in
+    let-done (v .let-view .ensures) (start v .pre) (e .nested .ensures) _ _ _ (c .before .r .given .1)
 
 pub desugar-sequential-let-bindings-spec : {M : Type 1} → statement M
 desugar-sequential-let-bindings-spec =
     tie.close
     (tie.spec
-    let-view-requires
-    sub-nested
-    part-nested-start
-    part-nested-end
-    sub-nested-2
+    (λ c κs. search needs)
+    (λ c. search needs)
+    (λ c. search needs)
+    (λ c. search needs)
+    sub-t17
     nested-requires
-    enum-known-k
-    enum-known-r
-    add-t22
-    same-length
+    (λ c. search needs)
+    (λ c. search needs)
+    add-t20
+    (λ c. search needs)
     returns
-    same-length-2
+    (λ c. search needs)
     returns-2)

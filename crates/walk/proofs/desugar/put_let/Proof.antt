@@ -1,7 +1,9 @@
 -- `walk::desugar::put_let` meets its contract. Assumes nothing.
 use borrow.Author.Needs.{needs}
+use native.Mathlib.Omega.{arith}
 use mathlib.Core.Path.{refl}
 use Rattle.names.specs.Names.{ascii}
+use Rattle.names.proofs.Frames.{movable-up}
 use Rattle.records.specs.Records.{byte, kind-field}
 use Rattle.walk.proofs.DesugarLaws.{let-written}
 use Rattle.walk.proofs.desugar.put_let.Statement.{statement}
@@ -20,7 +22,7 @@ put-requires : tie.Need-put-requires
 put-requires c κs = search needs
 
 copy-requires : tie.Need-copy-requires
-copy-requires c κs = search needs
+copy-requires c κs = movable-up (omega arith) (omega arith)
 
 add-put : tie.Need-add-put
 add-put c = search needs
@@ -35,7 +37,7 @@ add-copy : tie.Need-add-copy
 add-copy c = search needs
 
 copy-requires-2 : tie.Need-copy-requires-2
-copy-requires-2 c κs = search needs
+copy-requires-2 c κs = movable-up (omega arith) (omega arith)
 
 same-length : tie.Need-same-length
 same-length c = search needs

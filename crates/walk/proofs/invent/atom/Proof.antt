@@ -23,7 +23,8 @@ unfolding ascii
 returns-2 c =
     let p = c .before .before in
     let e = p .before .before in
-    (p .push .ensures .0, invents-drawn (sym (e .before .same .ensures) ∙ e .if1 .left) (p .push .ensures .1))
+    let a = start (e .before) .args in
+    (p .push .ensures .0, invents-drawn (a .mem .now) _ (a .start) (a .end) (a .len) (a .counter) (p .push .result) (sym (e .before .same .ensures) ∙ e .if1 .left) (p .push .ensures .1))
 
 pub atom-spec : {M : Type 1} → statement M
 atom-spec =

@@ -1,24 +1,22 @@
--- `walk::leaves::keep_body` meets its contract. Assumes nothing.
+-- `crate::leaves::keep_body` meets its contract. Assumes nothing.
 use borrow.Author.Needs.{needs}
+use mathlib.Core.Path.{refl}
 use native.Mathlib.Omega.{arith}
-use Rattle.walk.proofs.LeafLaws.{skipped, keeps-body}
+use Rattle.records.specs.Records.{body-bytes}
+use Rattle.walk.proofs.Substitutes.{trees-kept}
 use Rattle.walk.proofs.leaves.keep_body.Statement.{statement}
 use Rattle.walk.proofs.leaves.keep_body.Tie as tie
 
-skip-requires : tie.Need-skip-requires
-skip-requires c κs = search needs
-
 keep-requires : tie.Need-keep-requires
 keep-requires c κs =
-    let b = c .before .before .before .before .pre .0 in
-    let n = skipped (c .before .skip .ensures) (b .0) (b .1 .fields) (b .1 .there) in
-    (omega arith, omega arith)
-
-same-length : tie.Need-same-length
-same-length c = search needs
+    let s = c .before in
+    let p = s .before .before .before .pre in
+    (omega (arith, s .skip .ensures .skips (p .tree) (p .good) (p .there), p .below), omega (arith, p .room))
 
 returns : tie.Need-returns
-returns c = keeps-body (c .before .before .before .before .skip .ensures) (c .before .before .keep .ensures .1)
+returns c =
+    let k = c .before .before in
+    trees-kept body-bytes (λ m b. b) (k .keep .ensures) (λ m b there v. (k .before .before .skip .ensures .skips b v there, refl))
 
 pub keep-body-spec : {M : Type 1} → statement M
-keep-body-spec = tie.close (tie.spec skip-requires keep-requires same-length returns)
+keep-body-spec = tie.close (tie.spec (λ c κs. search needs) keep-requires (λ c. search needs) returns)

@@ -43,19 +43,19 @@ returns : tie.Need-returns
 unfolding ascii
 returns c =
     let d = c .before .before in
-    plans-q (heads "q" (start d .pre) (d .is-atom .ensures) refl (c .before .if1 .taken)) (c .sexp-length .ensures)
+    plans-q (start d .args .qq) (heads "q" (start d .pre) (d .is-atom .ensures) refl (c .before .if1 .taken)) (c .skip-sexp .ensures)
 
 returns-2 : tie.Need-returns-2
 returns-2 c =
     let d = c .before .before in
     let i = d .before in
-    plans-quote (not-q (second (i .before))) (d .single .ensures) (c .before .sexp-length2 .ensures) (quote i) (c .if3 .taken)
+    plans-quote (start (second (i .before) .before) .args .qq) (not-q (second (i .before))) (d .single .ensures) (c .before .skip-sexp2 .ensures) (quote i) (c .if3 .taken)
 
 returns-3 : tie.Need-returns-3
 returns-3 c =
     let d = c .before .before in
     let i = d .before in
-    plans-quote-none (not-q (second (i .before))) (d .single .ensures) (c .before .sexp-length2 .ensures) (quote i) (c .if3 .left)
+    plans-quote-none (start (second (i .before) .before) .args .qq) (not-q (second (i .before))) (d .single .ensures) (c .before .skip-sexp2 .ensures) (quote i) (c .if3 .left)
 
 returns-4 : tie.Need-returns-4
 returns-4 c =
@@ -63,7 +63,7 @@ returns-4 c =
     let i = d .before in
     let g = third (i .before) in
     let n = g .before in
-    plans-qq (not-q (second (n .before))) (d .single2 .ensures) (c .before .sexp-length3 .ensures) (not-quote n) (looks (qq i) (g .if4 .taken)) (c .if6 .taken)
+    plans-qq (first n .args .qq) (not-q (second (n .before))) (d .single2 .ensures) (c .before .skip-sexp3 .ensures) (not-quote n) (qq i) (g .if4 .taken) (c .if6 .taken)
 
 returns-5 : tie.Need-returns-5
 returns-5 c =
@@ -71,17 +71,17 @@ returns-5 c =
     let i = d .before in
     let g = third (i .before) in
     let n = g .before in
-    plans-qq-none (not-q (second (n .before))) (d .single2 .ensures) (c .before .sexp-length3 .ensures) (not-quote n) (looks (qq i) (g .if4 .taken)) (c .if6 .left)
+    plans-qq-none (first n .args .qq) (not-q (second (n .before))) (d .single2 .ensures) (c .before .skip-sexp3 .ensures) (not-quote n) (looks (qq i) (g .if4 .taken)) (c .if6 .left)
 
 returns-6 : tie.Need-returns-6
 unfolding ascii
 returns-6 c =
     let n = third (c .before) .before in
     let s = first n in
-    plans-go-on (not-q (second (n .before))) (not-quote n) (no-qq (s .args .qq) (heads "qq" (s .pre) (c .before .is-atom3 .ensures) refl (c .if5 .left)))
+    plans-go-on (s .args .qq) (not-q (second (n .before))) (not-quote n) (no-qq (s .args .qq) (heads "qq" (s .pre) (c .before .is-atom3 .ensures) refl (c .if5 .left)))
 
 returns-7 : tie.Need-returns-7
-returns-7 c = let n = c .before in plans-go-on (not-q (second (n .before))) (not-quote n) (not-looked (c .if4 .left))
+returns-7 c = let n = c .before in plans-go-on (first n .args .qq) (not-q (second (n .before))) (not-quote n) (not-looked (c .if4 .left))
 
 pub in-cons-spec : {M : Type 1} → statement M
 in-cons-spec =

@@ -20,7 +20,7 @@ unfolding ascii
 unquote c = heads "unquote" (start (asked c) .pre) (asked c .is-atom .ensures) refl (c .before .if1 .taken)
 
 returns : tie.Need-returns
-returns c = let d = c .before .before in plans-unquote (unquote d) (d .single .ensures) (c .before .if2 .taken) (c .sexp-length .ensures)
+returns c = let d = c .before .before in plans-unquote (unquote d) (d .single .ensures) (c .before .if2 .taken) (c .skip-sexp .ensures)
 
 returns-2 : tie.Need-returns-2
 returns-2 c = plans-unquote-none (unquote (c .before)) (c .before .single .ensures) (c .if2 .left)

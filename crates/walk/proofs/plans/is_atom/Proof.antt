@@ -1,34 +1,51 @@
 -- `crate::plans::is_atom` meets its contract. Assumes nothing.
 use borrow.Author.Needs.{needs}
-use mathlib.Core.Path.{sym, subst, _∙_}
+use native.Mathlib.Omega.{arith}
+use mathlib.Core.List.{[], _∷_}
+use mathlib.Core.Path.{sym, subst}
+use types.Run.{miss}
+use Rattle.records.specs.Views.{SeesSexp}
+use Rattle.records.specs.declared.SexpView.the-variants.{Atom}
 use Rattle.walk.specs.Plans.{IsAtom}
 use Rattle.walk.proofs.Onlys.{not-atom, the-atom}
 use Rattle.walk.proofs.plans.is_atom.Statement.{statement}
 use Rattle.walk.proofs.plans.is_atom.Tie as tie
 
--- from its mark back to the start
-abbrev start : tie.After-sexp-mark → tie.Start
+-- from its view back to the start
+abbrev start : tie.After-sexp-view → tie.Start
 start c = c .before .before .before
 
+-- an SA
+named : (c : tie.After-v) → SeesSexp (start (c .before .before) .args .s .now) (Atom (c .v .given .0 .0))
+named c = rw (c .v .given .1) at (c .before .before .sexp-view .ensures)
+
+sub-same : tie.Need-sub-same
+sub-same c = let p = named (c .before) .places in omega (arith, p .forward)
+
+part-start : tie.Need-part-same-start
+part-start c = let p = named (c .before) .places in omega (arith, p .forward)
+
+part-end : tie.Need-part-same-end
+part-end c = let p = named (c .before) .places in omega (arith, p .within)
+
 returns : tie.Need-returns
-returns c = not-atom (λ q. c .if1 .taken (c .before .sexp-mark .ensures ∙ sym q))
+returns c = not-atom (λ n e. miss (0 ∷ 1 ∷ 2 ∷ 3 ∷ 5 ∷ []) 4 tt (rw e at (c .match .keys2))) (c .before .sexp-view .ensures)
 
 returns-2 : tie.Need-returns-2
 returns-2 c =
-    let v = c .before .before in
-    let e = v .before in
-    let a = start (e .before) .args in
-    subst (IsAtom (a .s .now) (a .word .now)) (sym (c .same .ensures)) (the-atom (sym (e .if1 .left) ∙ e .before .sexp-mark .ensures) (v .sexp-view .ensures))
+    let v = c .before .before .before in
+    let a = start (v .before .before) .args in
+    subst (IsAtom (a .s .now) (a .word .now)) (sym (c .same .ensures)) (the-atom (named v))
 
 pub is-atom-spec : {M : Type 1} → statement M
 is-atom-spec =
     tie.close
     (tie.spec
     (λ c κs. search needs)
+    (λ c. search needs)
     returns
-    (λ c κs. search needs)
-    (λ c. search needs)
-    (λ c. search needs)
-    (λ c. search needs)
+    sub-same
+    part-start
+    part-end
     (λ c κs. search needs)
     returns-2)

@@ -5,10 +5,11 @@ use Prim.Native.Nat.{_+_, _≤_}
 use lib.ListN.{length}
 use Rattle.names.specs.Names.{name-width}
 use Rattle.names.proofs.Fields.{name-field-length}
-use Rattle.walk.specs.Arena.{head-width}
+use Rattle.names.proofs.Frames.{movable-up}
 use Rattle.walk.proofs.Substitutes.{named-length, written-atom}
 use Rattle.walk.proofs.substitute.put_atom.Statement.{statement}
 use Rattle.walk.proofs.substitute.put_atom.Tie as tie
+use Rattle.records.specs.Records.{head-width}
 
 -- from the copy back to the start
 abbrev start : tie.After-copy → tie.Start
@@ -19,7 +20,7 @@ room : (c : tie.Start) → c .args .free + head-width + name-width + length (c .
 room c = omega (arith, named-length (c .args .mem .now) (c .args .name .now) (omega arith))
 
 copy-requires : tie.Need-copy-requires
-copy-requires c κs = let s = c .before .before .before in (s .pre .1 .0, omega (arith, room s))
+copy-requires c κs = let s = c .before .before .before in movable-up (s .pre .1 .0) (omega (arith, room s))
 
 put-name-requires : tie.Need-put-name-requires
 put-name-requires c κs =
@@ -37,9 +38,7 @@ pub put-atom-spec : {M : Type 1} → statement M
 put-atom-spec =
     tie.close
     (tie.spec
-    (λ c. search needs)
     copy-requires
-    (λ c. search needs)
     (λ c. search needs)
     put-name-requires
     (λ c. search needs)

@@ -5,18 +5,19 @@ use mathlib.Core.Path.{_≡_, _∙_}
 use Prim.Native.Nat.{_+_, _≤_}
 use lib.ListN.{length}
 use Rattle.names.specs.Names.{ascii}
-use Rattle.records.specs.Records.{sexp-bytes}
-use Rattle.walk.specs.Arena.{head-width}
+use Rattle.names.proofs.Frames.{movable-up}
+use Rattle.records.specs.Records.{head-width, sexp-bytes}
+use Rattle.walk.specs.Plans.{substitution}
 use Rattle.walk.proofs.QuoteLaws.{Seen, seen, measured, requote-long, requote-done}
 use Rattle.walk.proofs.substitute.requote.Statement.{statement}
 use Rattle.walk.proofs.substitute.requote.Tie as tie
 
 -- from a place back to an earlier one
-abbrev start : tie.After-sexp-length → tie.Start
+abbrev start : tie.After-skip-sexp → tie.Start
 start c = c .before .before .before .before
 
-abbrev sized : tie.After-copy → tie.After-sexp-length
-sized c = c .before .before .before
+abbrev sized : tie.After-copy → tie.After-skip-sexp
+sized c = c .before .before .before .before
 
 abbrev copied : tie.After-copy2 → tie.After-copy
 copied c = c .before .before .before .before
@@ -25,42 +26,43 @@ abbrev located : tie.After-put → tie.After-copy2
 located c = c .before .before .before .before .before
 
 -- v, and its length
-here : (c : tie.Start) → Seen (c .args .inside) (c .args .qq) (c .pre .1 .1) (c .pre .0 .0)
-here c = seen (c .args .inside) (c .args .qq) (c .pre .1 .1) (c .pre .0 .0) (c .pre .0 .1 .fields) (c .pre .0 .1 .there)
+here : (c : tie.Start) → Seen (substitution (c .args .quasi)) (c .pre .1) (c .pre .0 .tree)
+here c = seen (substitution (c .args .quasi)) (c .pre .1) (c .pre .0 .tree) (c .pre .0 .good) (c .pre .0 .there)
 
-size : (c : tie.After-sexp-length) → c .sexp-length .result ≡ length (sexp-bytes (here (start c) .v))
-size c = let s = start c in measured (s .args .inside) (s .args .qq) (s .pre .1 .1) (c .sexp-length .ensures) (here s)
+size : (c : tie.After-skip-sexp) → c .skip-sexp .result ≡ length (sexp-bytes (here (start c) .v))
+size c = let s = start c in measured (substitution (s .args .quasi)) (s .pre .1) (c .skip-sexp .ensures) (here s)
 
 -- the result fits
 room : (c : tie.Else1)
-    → start (c .before) .args .free + (start (c .before) .args .at + c .before .sexp-length .result + head-width) ≤ length (start (c .before) .args .mem .now)
-room c = omega (arith, c .if1 .left, start (c .before) .pre .1 .0)
+    → start (c .before .before) .args .task .free + (start (c .before .before) .args .at + c .before .before .skip-sexp .result + head-width)
+    ≤ length (start (c .before .before) .args .mem .now)
+room c = omega (arith, c .if1 .left, start (c .before .before) .pre .0 .room)
 
 add-loc : tie.Need-add-loc
-add-loc c = let k = here (c .before) in omega (arith, k .within, c .before .pre .0 .1 .below, c .before .good)
+add-loc c = let k = here (c .before) in omega (arith, k .within, c .before .pre .0 .below, c .before .good)
 
-sub-sexp-length : tie.Need-sub-sexp-length
-sub-sexp-length c = let k = here (c .before) in omega (arith, k .there .fits)
+sub-skip-sexp : tie.Need-sub-skip-sexp
+sub-skip-sexp c = let k = here (c .before) in omega (arith, k .there .fits)
 
-part-sexp-length-start : tie.Need-part-sexp-length-start
-part-sexp-length-start c = let k = here (c .before .before) in omega (arith, k .there .fits)
+part-skip-sexp-start : tie.Need-part-skip-sexp-start
+part-skip-sexp-start c = let k = here (c .before .before) in omega (arith, k .there .fits)
 
 add-if1 : tie.Need-add-if1
 add-if1 c = let k = here (start c) in omega (arith, size c, k .there .fits, start c .good)
 
-add-if1-2 : tie.Need-add-if1-2
-add-if1-2 c = let k = here (start c) in omega (arith, size c, k .there .fits, start c .good)
-
 returns : tie.Need-returns
 returns c =
-    let s = start (c .before) in
-    let a = s .args in
-    requote-long (a .inside) (a .qq) (s .pre .1 .1) (c .before .sexp-length .ensures) (a .f) (a .counter) (c .if1 .taken)
+    let i = c .before in
+    let n = i .before .before in
+    let s = start n in
+    requote-long (substitution (s .args .quasi)) (s .pre .1) (n .skip-sexp .ensures) (c .over-long .ensures) (i .if1 .taken)
 
 copy-requires : tie.Need-copy-requires
 copy-requires c κs =
-    let s = start (c .before .before) in
-    (omega (arith, size (c .before .before), here s .within, s .pre .0 .1 .below), omega (arith, room (c .before)))
+    let i = c .before in
+    let n = i .before .before in
+    let s = start n in
+    movable-up (omega (arith, size n, here s .within, s .pre .0 .below)) (omega (arith, room i))
 
 sub-copy : tie.Need-sub-copy
 sub-copy c = let k = here (start (sized (c .before .before .before))) in omega (arith, k .behind)
@@ -70,7 +72,7 @@ copy-requires-2 c κs =
     let d = c .before .before .before in
     let s = start (sized d) in
     let k = here s in
-    (omega (arith, k .behind, k .within, s .pre .0 .1 .below), omega (arith, k .behind, room (d .before .before), d .copy .ensures .frame .size))
+    movable-up (omega (arith, k .behind, k .within, s .pre .0 .below)) (omega (arith, k .behind, room (d .before .before), d .copy .ensures .frame .size))
 
 copy-requires-3 : tie.Need-copy-requires-3
 copy-requires-3 c κs =
@@ -79,7 +81,7 @@ copy-requires-3 c κs =
     let s = start (sized e) in
     let k = here s in
     let l = located d .copy2 .ensures .frame .size ∙ e .copy .ensures .frame .size in
-    (omega (arith, k .behind, k .within, s .pre .0 .1 .below), omega (arith, room (e .before .before), l, d .put .ensures .frame .size))
+    movable-up (omega (arith, k .behind, k .within, s .pre .0 .below)) (omega (arith, room (e .before .before), l, d .put .ensures .frame .size))
 
 returns-2 : tie.Need-returns-2
 unfolding ascii
@@ -90,22 +92,20 @@ returns-2 c =
     let e = copied g in
     let n = sized e in
     let s = start n in
-    let a = s .args in
-    requote-done (a .inside) (a .qq) (s .pre .1 .1) (n .sexp-length .ensures) (a .f) (a .counter) (s .pre .0 .1)
-    (e .before .before .if1 .left) (s .pre .1 .0) (e .copy .ensures) (g .copy2 .ensures) (p .put .ensures) (d .copy3 .ensures)
+    requote-done (substitution (s .args .quasi)) (s .pre .1) (n .skip-sexp .ensures) (s .pre .0) (e .before .before .if1 .left) (e .copy .ensures) (g .copy2 .ensures) (p .put .ensures) (d .copy3 .ensures)
 
 pub requote-spec : {M : Type 1} → statement M
 requote-spec =
     tie.close
     (tie.spec
     add-loc
-    sub-sexp-length
-    part-sexp-length-start
+    sub-skip-sexp
+    part-skip-sexp-start
     (λ c. search needs)
     (λ c κs. search needs)
     (λ c. search needs)
     add-if1
-    add-if1-2
+    (λ c κs. search needs)
     (λ c. search needs)
     returns
     copy-requires
@@ -118,7 +118,6 @@ requote-spec =
     (λ c. search needs)
     (λ c. search needs)
     copy-requires-3
-    (λ c. search needs)
     (λ c. search needs)
     (λ c. search needs)
     returns-2)
