@@ -39,7 +39,7 @@ pub record Says {A B : Type 0} (bytes : A → Bytes) (Good : A → Type 0) (made
   pub says : (m : NameMap) → MapAt old (t .map) m → (a : A) → At old 0 (bytes a) → length (bytes a) ≤ t .free → Good a
       → Gives made new (t .free) (length (bytes a)) (rule m a) r
 
--- a result of at most f bytes, or that refusal
+-- a result of at most f bytes, or the refusal that it is too long
 unfoldable pub fitting : {A : Type 0} → (A → Bytes) → ℕ → ℕ → A → Outcome A
 fitting bytes f c u = elim (leb (length (bytes u)) f) [ true ↦ gives u c | false ↦ refuses over-long ]
 
