@@ -243,6 +243,19 @@ module _ {s : Bytes} {keyword ca captures args body : ℕ} where
         let d : depth c ≤ level-limit = omega (arith, v .1) in
         let ld : lambda-depth c ≤ lambda-limit = omega (arith, v .2) in
         close-step xc c (v .0 .3, d, ld) (close-step xca ca′ (v .0 .2) (close-step xw w (v .0 .1) (close-head "BF" x l _ refl (v .0 .0) e)));
+    parts = λ l w ca′ c a b v e.
+        let hw = x .past (ascii "BF") l _ refl (v .0 .0) (opened "BF" _ e) in
+        let hca = step xw w (v .0 .1) hw in
+        let hc = step xca ca′ (v .0 .2) hca in
+        let d : depth c ≤ level-limit = omega (arith, v .1) in
+        let ld : lambda-depth c ≤ lambda-limit = omega (arith, v .2) in
+        let ha = step xc c (v .0 .3, d, ld) hc in
+        let at-keyword = x .ends (ascii "BF") l _ refl (v .0 .0) (opened "BF" _ e) in
+        let at-binders = xw .past w (v .0 .1) (first-of hw) in
+        let at-captures = xca .past ca′ (v .0 .2) (first-of hca) in
+        let at-args = xc .past c (v .0 .3, d, ld) (first-of hc) in
+        let at-body = xa .past a (v .0 .4) (first-of ha) in
+        record { parted = record { binders-at = omega (arith, length-append l w); args-at = omega arith; body-at = at-body }; captures-at = at-captures };
   }
 
 module _ {s : Bytes} {r : ℕ} where

@@ -4,7 +4,7 @@ use mathlib.Core.Path.{_≡_}
 use mathlib.Core.List.{List, [], _∷_, _++_, flatten}
 use Prim.Native.Nat.{ℕ, _+_, _^_, _≤_, _<_}
 use lib.ListN.{length, take, drop}
-use Rattle.names.specs.Names.{Bytes, number-of, number-field, name-width, name-field}
+use Rattle.names.specs.Names.{Bytes, ascii, number-of, number-field, name-width, name-field}
 use Rattle.names.specs.Segments.{At}
 use Rattle.records.specs.Read.{kind-of}
 use Rattle.records.specs.Records.{mark-width, head-width, integer-width, Loc, integer-field, Sexp, SN, SC, SI, SQ, SA, sexp-bytes, Kind, Pattern, Name, Complex, pattern-field, Body, BL, BQ, BV, BC, BM, BF, body-bytes, Bodies, bodies-bytes, bodies-count, Tail, no-tail, tail, tail-bytes, BB, binding-bytes, Bindings, bindings-bytes, bindings-count, HC, HM, HD, HN, HR, helper-bytes, Helpers, helpers-bytes, helpers-count, Form, CF, form-bytes}
@@ -125,6 +125,21 @@ pub record SeesBinding (s : Bytes) (v : BindingView) : Type 0 where
   pub body-within : v .body ≤ length s
   pub sees : (l nl : Loc) (p : Pattern) (b : Body) → ValidBinding (BB l nl p b) → At s 0 (binding-bytes (BB l nl p b)) → BindingAt s v p b
 
+-- the bytes of a BF before its capture args
+abbrev pub lambda-head : Loc → Bytes → Bytes
+lambda-head l w = ascii "BF" ++ (l ++ w)
+
+-- where capture args, args and body stand
+pub record Parted (at args body : ℕ) (l : Loc) (w : Bytes) (ca : Sexp) (c : Body) (a : Sexp) : Type 0 where
+  pub binders-at : at ≡ length (lambda-head l w)
+  pub args-at : args ≡ at + length (sexp-bytes ca) + length (body-bytes c)
+  pub body-at : body ≡ args + length (sexp-bytes a)
+
+-- and the captures, in a view
+pub record LambdaParted (v : LambdaView) (l : Loc) (w : Bytes) (ca : Sexp) (c : Body) (a : Sexp) : Type 0 where
+  pub parted : Parted (v .binders) (v .args) (v .body) l w ca c a
+  pub captures-at : v .captures ≡ v .binders + length (sexp-bytes ca)
+
 -- a BF: K, capture args, captures, args and body
 pub record LambdaAt (s : Bytes) (v : LambdaView) (w : Bytes) (ca : Sexp) (c : Body) (a : Sexp) (b : Body) : Type 0 where
   pub keyword : At s (v .keyword) w
@@ -138,6 +153,7 @@ pub record SeesLambda (s : Bytes) (v : LambdaView) : Type 0 where
   pub args-within : v .args ≤ length s
   pub sees : (l : Loc) (w : Bytes) (ca : Sexp) (c : Body) (a : Sexp) (b : Body) → ValidBody (BF l w ca c a b) → At s 0 (body-bytes (BF l w ca c a b)) → LambdaAt s v w ca c a b
   pub closes : (l : Loc) (w : Bytes) (ca : Sexp) (c : Body) (a : Sexp) (b : Body) → ValidBody (BF l w ca c a b) → At s 0 (body-bytes (BF l w ca c a b)) → Closes s (v .args) (sexp-bytes a ∷ body-bytes b ∷ []) (length (body-bytes (BF l w ca c a b)))
+  pub parts : (l : Loc) (w : Bytes) (ca : Sexp) (c : Body) (a : Sexp) (b : Body) → ValidBody (BF l w ca c a b) → At s 0 (body-bytes (BF l w ca c a b)) → LambdaParted v l w ca c a
 
 -- a BM: its CF
 abbrev pub SeesMod : Bytes → ℕ → Type 0

@@ -38,10 +38,10 @@ use Rattle.walk.specs.Patterns.{make-binding-unique, make-bindings-uniqu
 use Rattle.walk.specs.Bodyforms.{each-body, call-tail, each-binding-body, Rules, args-then-in, rename-args-let, rename-args-desugared, rename-args-sequential, rename-assign-binding, rename-assign-bindings, rename-args-ordered, rename-args-assign, rename-args-bodyform, in-elements, rename-in-bodyform, body-rules, walk, deadlocked, log-assign, logged, no-binding, rename-in-quoted, rename-in-value}
 use Rattle.walk.specs.Helperforms.{FormRules, each-helper, further-helpers, rename-args-helperform, rename-in-helperform, rename-args-compileform, rename-in-compileform, rename-children-compileform, form-rules, form-walk, whole-walk, children-walk, helper-walk}
 use Rattle.walk.specs.Calls.{answered, call-run, whole-run, children-run, helper-run, whole-call, children-call, helper-call}
+use Rattle.walk.specs.Draws.{helper-atoms, form-atoms, dbl}
 use Rattle.walk.proofs.All.{All, all-none, all-cons, all-append, all-map}
 use Rattle.walk.proofs.Reached.{all-visits}
-use Rattle.walk.proofs.Atoms.{helper-atoms, form-atoms}
-use Rattle.walk.proofs.Sizes.{dbl, order-below}
+use Rattle.walk.proofs.Sizes.{order-below}
 use Rattle.walk.proofs.Visits.{order-length}
 use Rattle.walk.proofs.Limits.{WalkRefusal, Fine as Within, Runs, whole-runs, children-runs, helper-runs}
 use Rattle.walk.proofs.Kept.{Named, valid-cons, valid-atom, Kept, BodyKept, BodiesKept, TailKept, BindingKept, HelperKept, HelpersKept, FormKept, ListKept, all-at, LetKept, let-parts, let-kept, one-binding, kept-desugar}
@@ -338,7 +338,7 @@ module _ (F : ℕ) where
   gives-log-assign (BM l f) p s = s
   gives-log-assign (BF l w ca c a b) p s = s
 
-  keeps-walk : (fuel : ℕ) → KeepsRules (walk F fuel)
+  pub keeps-walk : (fuel : ℕ) → KeepsRules (walk F fuel)
   unfolding walk body-rules
   keeps-walk zero = record { args-bodyform = λ z k b p. gives-refuse out-of-fuel; in-bodyform = λ m n z k b p. gives-refuse out-of-fuel }
   keeps-walk (suc fuel) =

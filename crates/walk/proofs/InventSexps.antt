@@ -1,15 +1,15 @@
 -- Drawing names for an S record, by what its view says. Assumes nothing.
-use mathlib.Core.Path.{_≡_, refl, sym, ap, subst, _∙_}
+use mathlib.Core.Path.{_≡_, refl, sym, ap, _∙_}
 use native.Mathlib.Omega.{arith}
 use Prim.Native.Nat.{ℕ, _+_, _-_, _*_, _≤_, _<_}
-use lib.ListN.{length, length-drop}
-use Rattle.names.specs.Maps.{NameMap, map-bytes}
+use lib.ListN.{length}
+use Rattle.names.specs.Maps.{NameMap}
 use Rattle.names.specs.Names.{Bytes}
 use Rattle.names.specs.declared.Refusal.{Refusal}
 use Rattle.names.specs.Segments.{At, SameOutside}
 use Rattle.names.proofs.Frames.{at-below, same-wider}
-use Rattle.names.proofs.Parts.{into, part, back, part-length, back-length, at-back, same-back}
-use Rattle.names.proofs.Places.{at-place, at-end, at-whole, at-rest}
+use Rattle.names.proofs.Parts.{into, part, back, part-length, same-back}
+use Rattle.names.proofs.Places.{at-place}
 use Rattle.records.specs.Answer.{Outcome, gives, refuses}
 use Rattle.records.specs.Parts.{Skips, fields-part}
 use Rattle.records.specs.Records.{Loc, Sexp, SC, SA, sexp-bytes}
@@ -28,6 +28,7 @@ use Rattle.walk.specs.declared.Invented.{Invented}
 use Rattle.walk.specs.declared.Invented.the-variants.{Drawn, Refused}
 use Rattle.walk.proofs.InventLaws.{grown-none, grown-then, grown-stop}
 use Rattle.walk.proofs.MapLaws.{map-of-part}
+use Rattle.walk.proofs.PartMaps.{map-back}
 use Rattle.walk.proofs.StepLaws.{outcome-then, outcome-stop}
 use Rattle.walk.proofs.Views.{NoPair, NoAtom, AtomAt, atom}
 
@@ -242,20 +243,6 @@ module _ (mem : Bytes) (a : ℕ) (y : Bytes) where
       let l = part-length mem a rest (omega arith) in
       same-wider (length mem - k) (length mem - len) (omega arith) (omega arith) (same-back mem a rest (omega arith) f (omega arith) (omega arith))
 
-  map-back : {k : ℕ} {m : NameMap} → a ≤ length mem → length y ≡ length (part mem a rest) → MapAt y k m → MapAt whole k m
-  map-back {k} {m} le s w =
-      let l = part-length mem a rest (omega arith) in
-      let b = back-length mem a rest (omega arith) y (s ∙ l) in
-      let at = length y - k in
-      let here = at-place at (omega arith) (at-rest at (at-whole y) (omega arith)) in
-      let there = at-back mem a rest (omega arith) y (s ∙ l) (subst (At y at) (w .there) here) in
-      let n : length (map-bytes m) ≡ k = omega (arith, ap length (w .there), length-drop at y, w .within) in
-      record {
-        within = omega (arith, w .within);
-        there = at-end (at-place (length whole - k) (omega (arith, w .within)) there) (omega (arith, w .within));
-        limited = w .limited;
-      }
-
   pub invents-part : {len c : ℕ} (r : Invented) → InventsSexp (part mem a rest) y 0 len c r → InventsSexp mem whole a len c (moved a r)
   invents-part {len} {c} r h t room m w = go r (h t (roomy-part room) m (map-of-part a (omega (arith, room .fits)) w))
     where
@@ -274,7 +261,7 @@ module _ (mem : Bytes) (a : ℕ) (y : Bytes) where
             draws = record {
               value = d .draws .value;
               runs = d .draws .runs;
-              map-at = map-back (omega arith) (d .grown .frame .size) (d .draws .map-at);
+              map-at = map-back mem a (omega arith) (d .grown .frame .size) (d .draws .map-at);
               next = omega (arith, d .draws .next);
               at-most = d .draws .at-most;
               counted = d .draws .counted;

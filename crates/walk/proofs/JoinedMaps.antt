@@ -60,7 +60,7 @@ module _ (k : NameMap) where
       go false = draws (draw n c x)
 
 -- the bytes of joined maps
-joined-bytes : (a b : NameMap) → map-bytes (a ++ b) ≡ map-bytes a ++ map-bytes b
+pub joined-bytes : (a b : NameMap) → map-bytes (a ++ b) ≡ map-bytes a ++ map-bytes b
 unfolding map-bytes
 joined-bytes [] b = refl
 joined-bytes ((n, n′) ∷ a) b =

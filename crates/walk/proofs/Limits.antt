@@ -7,7 +7,7 @@ use mathlib.Core.Logic.{_⊎_, inl, inr}
 use mathlib.Core.Bool.{Bool, true, false}
 use mathlib.Core.List.{List, [], _∷_, _++_, List·Memᴰ·head, List·Memᴰ·tail, List·Memᴰ·not-nil}
 use mathlib.Core.Option.{Option, none, some}
-use Prim.Native.Nat.{ℕ, zero, suc, _+_, _-_, _^_, _≤_, _<_, max}
+use Prim.Native.Nat.{ℕ, zero, suc, _+_, _-_, _≤_, _<_, max}
 use native.Mathlib.Omega.{arith}
 use lib.Dec.{leb}
 use lib.ListN.{length, getD}
@@ -34,11 +34,12 @@ use Rattle.walk.specs.Patterns.{make-binding-unique, make-bindings-uniqu
 use Rattle.walk.specs.Bodyforms.{desugar-sequential-let-bindings, each-body, call-tail, each-binding-body, Rules, args-then-in, rename-args-let, rename-args-desugared, rename-args-sequential, rename-assign-binding, rename-assign-bindings, rename-args-ordered, rename-args-assign, rename-args-bodyform, in-elements, rename-in-bodyform, body-rules, walk, deadlocked, log-assign, logged, no-binding, rename-in-quoted, rename-in-value}
 use Rattle.walk.specs.Helperforms.{FormRules, each-helper, further-helpers, rename-args-helperform, rename-in-helperform, rename-args-compileform, rename-in-compileform, rename-children-compileform, form-rules, form-walk, whole-walk, children-walk, helper-walk}
 use Rattle.walk.specs.Calls.{answered, call-run, whole-run, children-run, helper-run, whole-call, children-call, helper-call, whole-visits, children-visits, helper-visits}
+use Rattle.walk.specs.Draws.{dbl, sexp-atoms, pattern-atoms, atoms, bodies-atoms, tail-atoms, binding-atoms, bindings-atoms, helper-atoms, helpers-atoms, form-atoms, patterns-of, inside-of, list-atoms, most}
 use Rattle.records.proofs.Lists.{list-count}
 use Rattle.walk.proofs.All.{All, all-none, all-cons, all-map, all-in}
 use Rattle.walk.proofs.Reached.{all-visits}
-use Rattle.walk.proofs.Sizes.{dbl, dbl-add, dbl-mono, dbl-least, dbl-twice, sum-at, order-below, order-sum, depth-to-bindings, depth-list-of, depth-desugar, positive, pick-depth, atoms-desugar, some-level, helper-positive, form-positive}
-use Rattle.walk.proofs.Atoms.{sexp-atoms, pattern-atoms, atoms, bodies-atoms, tail-atoms, binding-atoms, bindings-atoms, helper-atoms, helpers-atoms, form-atoms, patterns-of, inside-of, list-atoms, list-parts, atoms-to-bindings, atoms-list-of, most-cons, few-form, few-helper}
+use Rattle.walk.proofs.Sizes.{dbl-add, dbl-mono, dbl-least, dbl-twice, sum-at, order-below, order-sum, depth-to-bindings, depth-list-of, depth-desugar, positive, pick-depth, atoms-desugar, some-level, helper-positive, form-positive}
+use Rattle.walk.proofs.Atoms.{list-parts, atoms-to-bindings, atoms-list-of, most-cons, few-form, few-helper}
 
 abbrev pub Below : ℕ → Visit → Type 0
 Below k e = e .counter ≤ k
@@ -497,10 +498,6 @@ module _ (F : ℕ) where
   pub helper-runs : BoundedHelper level-limit (helper-walk F)
   unfolding helper-walk
   helper-runs x h = runs-form-walk level-limit .args-helperform x h
-
--- the longest record times 2 to the deepest level
-abbrev pub most : ℕ
-most = 2 ^ 46
 
 most-draws : dbl level-limit most-longest ≡ most
 unfolding dbl

@@ -15,12 +15,7 @@ use Rattle.ordering.specs.Toposort.{ordered}
 use Rattle.ordering.specs.Words.{item, items, toposort-assign-bindings}
 use Rattle.ordering.proofs.Toposort.{sound}
 use Rattle.walk.specs.Bodyforms.{desugar-sequential-let-bindings, no-binding}
-use Rattle.walk.proofs.Atoms.{atoms, binding-atoms, patterns-of, inside-of, list-atoms}
-
--- n times 2 to the d
-unfoldable pub dbl : ℕ → ℕ → ℕ
-dbl zero n = n
-dbl (suc d) n = dbl d (n + n)
+use Rattle.walk.specs.Draws.{atoms, binding-atoms, patterns-of, inside-of, list-atoms, dbl}
 
 pub dbl-add : (d x y : ℕ) → dbl d (x + y) ≡ dbl d x + dbl d y
 unfolding dbl
@@ -42,11 +37,11 @@ unfolding dbl
 dbl-twice d n = dbl-add d n n
 
 -- the bindings of an order: each index once, so no more atoms than all of them
-abbrev total : List ℕ → ℕ
+abbrev pub total : List ℕ → ℕ
 total [] = 0
 total (n ∷ ns) = n + total ns
 
-abbrev gathered : List ℕ → List ℕ → ℕ
+abbrev pub gathered : List ℕ → List ℕ → ℕ
 gathered v [] = 0
 gathered v (i ∷ is) = getD v i 0 + gathered v is
 
@@ -59,7 +54,7 @@ gathered-other : (v : List ℕ) (i : ℕ) (is : List ℕ) → ((k : ℕ) → k <
 gathered-other v i [] h = refl
 gathered-other v i (j ∷ is) h = omega (arith, getD-set-other v i j 0 0 (h 0 (omega arith)), gathered-other v i is (λ k l. h (suc k) (omega arith)))
 
-gathered-once : (v is : List ℕ) → ((j k : ℕ) → j < length is → k < length is → getD is j 0 ≡ getD is k 0 → j ≡ k) → gathered v is ≤ total v
+pub gathered-once : (v is : List ℕ) → ((j k : ℕ) → j < length is → k < length is → getD is j 0 ≡ getD is k 0 → j ≡ k) → gathered v is ≤ total v
 gathered-once v [] once = omega arith
 gathered-once v (i ∷ is) once =
     omega (

@@ -180,8 +180,8 @@ module _ (F : ℕ) where
     rename-in-bodyform m (BF l k ca c a b) = do
       c′ ← child F body-size (r .in-bodyform m c)
       ca′ ← child F sexp-size (rename-in-cons-step F false m ca)
-      b′ ← args-then-in m b
-      ret (BF l k ca′ c′ a b′)
+      b″ ← args-then-in m b
+      ret (BF l k ca′ c′ a b″)
 
     -- each use of a rule is a step
     unfoldable pub body-rules : Rules

@@ -12,3 +12,12 @@ pub mod Calls
 pub mod Assigns
 pub mod Leaves
 pub mod Room
+pub mod Draws
+pub mod Walking
+pub mod Scopes
+pub mod CallWalks
+pub mod SequentialWalks
+pub mod LambdaWalks
+pub mod NewNames
+pub mod LetWalks
+pub mod AssignWalks

@@ -1,8 +1,6 @@
 -- How much memory the walk has: what a level of nesting may hold from `free` on, and all levels together. docs/DECISIONS.md, 'Room'.
 -- Assumes nothing.
-use Prim.Native.Nat.{ℕ, zero, suc, _+_, _*_, _≤_}
-use lib.ListN.{length}
-use Rattle.names.specs.Names.{Bytes}
+use Prim.Native.Nat.{ℕ, zero, suc, _+_, _*_}
 use Rattle.walk.specs.Inventing.{map-growth}
 
 -- what is set aside in one level, in times F: a desugared let and a pattern; or the patterns and names of a let; or the bindings of an assign
@@ -21,7 +19,3 @@ level-room F = (aside-factor + result-factor + map-growth) * F
 unfoldable pub room : ℕ → ℕ → ℕ
 room F zero = 0
 room F (suc d) = F + d * level-room F
-
--- between free and a map of len bytes at the end of memory there is room for a step on a record of d levels
-pub record HasRoom (F d : ℕ) (mem : Bytes) (free len : ℕ) : Type 0 where
-  pub fits : free + room F d + len ≤ length mem

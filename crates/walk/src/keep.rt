@@ -9,12 +9,23 @@ ghost use lib.ListN.{length};
 ghost use Rattle.records.specs.declared.Step.the-variants.{Refused};
 ghost use Rattle.walk.specs.Arena.{KeepsBytes};
 ghost use Rattle.walk.specs.Steps.{over-long};
+ghost use Rattle.walk.specs.Walking.{Finishes};
 
 // The answer where a result is longer than it may be.
 pub fn over_long() -> Step
     ensures { λ r. ⌜ r ≡ Refused over-long ⌝ }
 {
     Step::Refused(placeless(7))
+}
+
+// A finished record of so many bytes, unless it is longer than F.
+pub fn finished(read: usize, written: usize, f: usize, counter: u64) -> Step
+    ensures { λ r. ⌜ Finishes read written f counter r ⌝ }
+{
+    if f < written {
+        return over_long();
+    }
+    Step::Done(read, written, counter)
 }
 
 // Keeps the n bytes at the start of mem.

@@ -2,15 +2,19 @@
 //
 // `invent` draws new names, and keeps them as a map at the end of memory. `substitute` has the names
 // of an S record by a map, `plans` how each S record is taken by it, `keep` records kept as they are.
-// `leaves` takes the B records that go no level down, `desugar` a sequential let. The other rules
-// stand in specs/ and proofs/ alone.
+// `scopes` has args and patterns by new names, `places` where parts of a record go. `leaves` takes the
+// B records that go no level down, `desugar` a sequential let, and `bodies` has Own and In-body of
+// every B record. The other rules stand in specs/ and proofs/ alone.
 use names::Refusal;
 
+pub mod bodies;
 pub mod desugar;
 pub mod invent;
 pub mod keep;
 pub mod leaves;
+pub mod places;
 pub mod plans;
+pub mod scopes;
 pub mod substitute;
 
 // What a step is given beside the record at the start of memory: where its result goes, how many
@@ -35,6 +39,27 @@ pub struct Growth {
 // What drawing names answers: how far they are drawn, or its refusal.
 pub enum Invented {
     Drawn(Growth),
+    Refused(Refusal),
+}
+
+// What a piece of a rule answers: how many bytes it read and wrote, the sum of the results that the rule
+// then holds, and the counter; or a refusal.
+pub enum Piece {
+    Done(usize, usize, usize, u64),
+    Refused(Refusal),
+}
+
+// Args or patterns by names drawn for them: how many bytes were read and written, how many the map
+// has then, and the counter; or a refusal.
+pub enum Drawn {
+    Done(usize, usize, usize, u64),
+    Refused(Refusal),
+}
+
+// A binding of an assign: how many bytes were written, the sum, the bytes of the map and the counter
+// then; or a refusal.
+pub enum Made {
+    Done(usize, usize, usize, u64),
     Refused(Refusal),
 }
 

@@ -194,7 +194,12 @@ pub fn model_helper(helper: &Helper, walk: &mut Walk) -> Renamed<Helper> {
 
 /// The walk of an input that can be read, with no F; a fresh one for any other.
 pub fn walked(call: Call, input: &[u8], counter: u64) -> Walk {
-    let mut walk = Walk::limited(counter, usize::MAX);
+    walked_within(call, input, counter, usize::MAX)
+}
+
+/// The same with an F: after a 7 its peak is what passed F.
+pub fn walked_within(call: Call, input: &[u8], counter: u64, f: usize) -> Walk {
+    let mut walk = Walk::limited(counter, f);
     match read(call, input) {
         Ok(Opened::Form(form)) => drop(model_form(call, &form, &mut walk)),
         Ok(Opened::Helper(helper)) => drop(model_helper(&helper, &mut walk)),

@@ -74,6 +74,13 @@ impl Maker {
         self.helper(OUTSIDE)
     }
 
+    /// An HC.
+    pub fn some_constant(&mut self, budget: usize) -> Helper {
+        self.start(budget);
+        let head = Head { loc: self.loc(), name: self.name(), rest: self.rest() };
+        Helper::HC(head, self.body(OUTSIDE.deeper(1)))
+    }
+
     pub fn some_assign(&mut self, budget: usize) -> Let {
         self.start(budget);
         match self.random.one_in(3) {

@@ -3,6 +3,7 @@
 #[macro_use]
 mod shims;
 pub mod answers;
+pub mod bodies;
 pub mod boundary;
 pub mod cases;
 mod codec;

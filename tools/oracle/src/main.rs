@@ -5,7 +5,7 @@ use oracle::generate::Maker;
 use oracle::orders;
 use oracle::reads::{self, Series};
 use oracle::records::{Bytes, Record};
-use oracle::{cases, compare, print, rows, sample, sexps, vectors};
+use oracle::{bodies, cases, compare, print, rows, sample, sexps, vectors};
 use std::io::{self, BufRead};
 use std::process::ExitCode;
 
@@ -26,6 +26,11 @@ const HELP: &str = "oracle COMMAND ..
                       writes N different cases of the call order to a file, most of them small; or of any length
   store-sexps --count N --seed S FILE
                       writes N different cases of Invent and Substitute to a file, most of them small
+  bodies --count N --seed S [--full]
+                      N cases of Own and In-body as vector lines of the call helper, each after a line that says what
+                      it is about
+  store-bodies --count N --seed S [--full] FILE
+                      writes N different cases of Own and In-body to a file, most of them small; or of any length
   rows [--batch N]    reads vector lines and prints an antt file that checks them by computation
   show HEX            a CF, a helper or an assign, readable
   run CALL HEX [COUNTER]
@@ -67,6 +72,10 @@ fn command(words: &[&str]) -> Done {
         }),
         ["store-sexps", options @ .., file] => {
             store(file, options, |seed, count| sexps::store(sexps::Series::seeded(seed), count))
+        }
+        ["bodies", options @ ..] => print_bodies(options),
+        ["store-bodies", options @ .., file] => {
+            store(file, options, |seed, count| bodies::store(body_series(options, seed), count))
         }
         ["rows", options @ ..] => rows::rows(&input_lines()?, number(options, "--batch", Some(rows::BATCH))? as usize),
         ["show", hex] => show(hex),
@@ -135,6 +144,20 @@ fn print_reads(options: &[&str]) -> Done {
     let series = Series::full(number(options, "--seed", None)?);
     let count = number(options, "--count", None)? as usize;
     series.take(count).for_each(|reading| println!("{}", reading.line()));
+    Ok(())
+}
+
+fn body_series(options: &[&str], seed: u64) -> bodies::Series {
+    match options.contains(&"--full") {
+        true => bodies::Series::full(seed),
+        false => bodies::Series::short(seed),
+    }
+}
+
+fn print_bodies(options: &[&str]) -> Done {
+    let series = body_series(options, number(options, "--seed", None)?);
+    let count = number(options, "--count", None)? as usize;
+    bodies::lines(series, count)?.iter().for_each(|line| println!("{line}"));
     Ok(())
 }
 

@@ -101,7 +101,7 @@ fn tuned(random: &mut Random, call: Call, input: Bytes) -> Case {
 }
 
 /// Mostly the least F that the walk of this input fits in, one less, or more; at times at the limits of F or of the input.
-fn some_f(random: &mut Random, call: Call, input: &[u8], counter: u64) -> u64 {
+pub fn some_f(random: &mut Random, call: Call, input: &[u8], counter: u64) -> u64 {
     let length = input.len() as u64;
     let peak = (answers::walked(call, input, counter).peak as u64).max(length);
     let f = match random.weighted(&[8, 3, 3, 1, 1]) {

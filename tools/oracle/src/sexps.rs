@@ -1,7 +1,7 @@
 //! Cases of Invent and Substitute: the names that a pattern draws, and a second S record by their map; with what the Rust answers.
 
 mod series;
-mod shapes;
+pub mod shapes;
 
 pub use series::Series;
 

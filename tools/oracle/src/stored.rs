@@ -12,22 +12,31 @@ pub fn two_bytes(field: usize) -> [u8; 2] {
     u16::try_from(field).expect("a field of two bytes").to_be_bytes()
 }
 
-/// So many cases of a series that differ, as `stored` gives each.
-pub fn distinct<Case>(
+/// So many cases of a series that differ, with what `stored` gives of each.
+pub fn different<Case>(
     series: impl Iterator<Item = Case>,
     count: usize,
     stored: impl Fn(&Case) -> Checked<Bytes>,
-) -> Checked<Bytes> {
+) -> Checked<Vec<(Case, Bytes)>> {
     let mut seen = HashSet::new();
-    let mut all = Bytes::new();
+    let mut all = Vec::new();
     for case in series {
         let bytes = stored(&case)?;
         if seen.insert(bytes.clone()) {
-            all.extend(bytes);
+            all.push((case, bytes));
         }
         if seen.len() >= count {
             break;
         }
     }
     Ok(all)
+}
+
+/// The same as they are stored, one after the other.
+pub fn distinct<Case>(
+    series: impl Iterator<Item = Case>,
+    count: usize,
+    stored: impl Fn(&Case) -> Checked<Bytes>,
+) -> Checked<Bytes> {
+    Ok(different(series, count, stored)?.into_iter().flat_map(|(_, bytes)| bytes).collect())
 }

@@ -1,0 +1,134 @@
+-- What stands at a place is one tree alone: of bodies, S records, patterns and bindings, one after the other, and of maps. So what is said of a tree that
+-- stands there is said of every one. Assumes nothing.
+use mathlib.Core.Path.{_≡_, refl, sym, ap, subst, _∙_}
+use mathlib.Core.Bool.{Bool}
+use mathlib.Core.List.{List, [], _∷_, _++_}
+use mathlib.Core.Option.{none}
+use native.Mathlib.Omega.{arith}
+use Prim.Native.Nat.{ℕ, suc, _+_, _-_}
+use lib.ListN.{length, drop, take-append-drop, length-append}
+use lib.Seq.{drop-append-seam}
+use Rattle.names.specs.Maps.{NameMap, map-bytes, Limited}
+use Rattle.names.specs.Names.{Bytes, name-field}
+use Rattle.names.specs.Segments.{At, SameOutside}
+use Rattle.names.proofs.Fields.{name-field-length}
+use Rattle.names.proofs.Parts.{into}
+use Rattle.names.proofs.Places.{at-place, at-left, at-right}
+use Rattle.records.specs.Limits.{level-limit, lambda-limit}
+use Rattle.records.specs.Lists.{joined, Each}
+use Rattle.records.specs.declared.Zone.the-variants.{Plain}
+use Rattle.records.specs.Read.{Input, readers, Reader}
+use Rattle.records.specs.Records.{sexp-bytes, pattern-field, Body, body-bytes, Bodies, []ᵇ, _∷ᵇ_, bodies-bytes, bodies-count, Binding, binding-bytes}
+use Rattle.records.specs.Parts.{ValidBinding}
+use Rattle.records.specs.Valid.{ValidName, ValidSexp, ValidPattern, ValidBody}
+use Rattle.records.proofs.Complete.{Reads, reads-name, reads-sexp, reads-pattern-of, complete-readers, reads-binding}
+use Rattle.walk.specs.Arena.{MapAt}
+use Rattle.walk.specs.CallWalks.{EachFine, FineBodies}
+use Rattle.walk.specs.Walking.{Fine, Ready, Tells}
+use Rattle.walk.specs.declared.Task.{Task}
+
+-- two trees that one reader reads from the same bytes are one
+same-tree : {A : Type 0} {P Q : Type 0} {n k : ℕ} {m : Reader A} {a b : A} {bs cs : Bytes} (xs ys : Bytes) → Reads P n k Plain m bs a → Reads Q n k Plain m cs b
+    → bs ++ xs ≡ cs ++ ys → a ≡ b
+same-tree {a = a} {b = b} {bs} xs ys r s e =
+    let i : Input = record { rest = bs ++ xs; offset = 0; first-mod = none } in
+    let p = r .reads 0 i xs refl in
+    let q = s .reads 0 i ys e in
+    let z = sym (p .ran) ∙ q .ran in
+    let w : a ≡ b = cc in
+    w
+
+at-front-of : {xs bs : Bytes} → At xs 0 bs → xs ≡ bs ++ drop (length bs) xs
+at-front-of {xs} {bs} a = sym (take-append-drop (length bs) xs) ∙ ap (λ (z : Bytes). z ++ drop (length bs) xs) (a .there)
+
+-- one tree at most stands at the start
+abbrev pub Unique : {A : Type 0} → (A → Bytes) → (A → Type 0) → Type 0
+Unique {A} bytes Good = (xs : Bytes) (a b : A) → Good a → Good b → At xs 0 (bytes a) → At xs 0 (bytes b) → a ≡ b
+
+pub unique-body : Unique body-bytes ValidBody
+unique-body xs a b p q x y =
+    same-tree _ _ (complete-readers level-limit .body level-limit lambda-limit Plain a (omega arith) (p .0) (p .1) (p .2))
+    (complete-readers level-limit .body level-limit lambda-limit Plain b (omega arith) (q .0) (q .1) (q .2)) (sym (at-front-of x) ∙ at-front-of y)
+
+pub unique-sexp : Unique sexp-bytes ValidSexp
+unique-sexp xs a b p q x y = same-tree {n = 0} {k = 0} _ _ (reads-sexp p) (reads-sexp q) (sym (at-front-of x) ∙ at-front-of y)
+
+pub unique-pattern : Unique pattern-field ValidPattern
+unique-pattern xs a b p q x y = same-tree {n = 0} {k = 0} _ _ (reads-pattern-of a p) (reads-pattern-of b q) (sym (at-front-of x) ∙ at-front-of y)
+
+pub unique-name : Unique name-field ValidName
+unique-name xs a b p q x y = same-tree {n = 0} {k = 0} _ _ (reads-name p) (reads-name q) (sym (at-front-of x) ∙ at-front-of y)
+
+pub unique-binding : Unique binding-bytes ValidBinding
+unique-binding xs a b p q x y =
+    same-tree _ _ (reads-binding (readers level-limit) (suc level-limit) (complete-readers level-limit) level-limit lambda-limit Plain a (omega arith) (p .0) (p .1) (p .2))
+    (reads-binding (readers level-limit) (suc level-limit) (complete-readers level-limit) level-limit lambda-limit Plain b (omega arith) (q .0) (q .1) (q .2)) (sym (at-front-of x) ∙ at-front-of y)
+
+-- a fine body
+pub unique-fine : {Only : Body → Type 0} {F d : ℕ} → Unique body-bytes (Fine Only F d)
+unique-fine xs a b p q x y = unique-body xs a b (p .valid) (q .valid) x y
+
+-- one list of so many bodies at most stands at a place
+same-bodies : (F d : ℕ) (xs : Bytes) (p : ℕ) (cs bs : Bodies) → EachFine F d cs → EachFine F d bs → bodies-count cs ≡ bodies-count bs → At xs p (bodies-bytes cs) → At xs p (bodies-bytes bs) → cs ≡ bs
+unfolding EachFine bodies-bytes bodies-count
+same-bodies F d xs p []ᵇ []ᵇ f g n x y = refl
+same-bodies F d xs p []ᵇ (b ∷ᵇ bs) f g n x y = absurd (omega arith)
+same-bodies F d xs p (a ∷ᵇ cs) []ᵇ f g n x y = absurd (omega arith)
+same-bodies F d xs p (a ∷ᵇ cs) (b ∷ᵇ bs) f g n x y =
+    let e = unique-fine _ a b (f .0) (g .0) (into (at-left (body-bytes a) (bodies-bytes cs) x)) (into (at-left (body-bytes b) (bodies-bytes bs) y)) in
+    let l : p + length (body-bytes b) ≡ p + length (body-bytes a) = omega (arith, ap (λ (z : Body). length (body-bytes z)) e) in
+    let r = same-bodies F d xs (p + length (body-bytes a)) cs bs (f .1) (g .1) (omega arith) (at-right (body-bytes a) (bodies-bytes cs) x) (at-place (p + length (body-bytes a)) l (at-right (body-bytes b) (bodies-bytes bs) y)) in
+    cc
+
+pub unique-bodies : {F d count : ℕ} → Unique bodies-bytes (FineBodies F d count)
+unique-bodies {F} {d} xs cs bs f g x y = same-bodies F d xs 0 cs bs (f .each) (g .each) (f .many ∙ sym (g .many)) x y
+
+-- one list of bindings at most stands at a place
+pub unique-bindings : {xs : Bytes} {q : ℕ} (bs cs : List Binding) → Each ValidBinding bs → Each ValidBinding cs → length bs ≡ length cs → At xs q (joined binding-bytes bs) → At xs q (joined binding-bytes cs)
+    → bs ≡ cs
+unfolding joined Each
+unique-bindings [] [] v w e x y = refl
+unique-bindings [] (c ∷ cs) v w e x y = absurd (omega arith)
+unique-bindings (b ∷ bs) [] v w e x y = absurd (omega arith)
+unique-bindings {xs} {q} (b ∷ bs) (c ∷ cs) v w e x y =
+    let s : b ≡ c = unique-binding _ b c (v .0) (w .0) (into (at-left (binding-bytes b) (joined binding-bytes bs) x)) (into (at-left (binding-bytes c) (joined binding-bytes cs) y)) in
+    let l = ap (λ (z : Binding). length (binding-bytes z)) s in
+    let r = unique-bindings bs cs (v .1) (w .1) (omega arith) (at-right (binding-bytes b) (joined binding-bytes bs) x)
+    (at-place (q + length (binding-bytes b)) (omega arith) (at-right (binding-bytes c) (joined binding-bytes cs) y)) in
+    cc
+
+-- one map at most
+name-head : (a b xs ys : Bytes) → ValidName a → ValidName b → name-field a ++ xs ≡ name-field b ++ ys → a ≡ b
+name-head a b xs ys p q e = same-tree {n = 0} {k = 0} _ _ (reads-name p) (reads-name q) e
+
+tail-of : (a b xs ys : Bytes) → a ≡ b → name-field a ++ xs ≡ name-field b ++ ys → xs ≡ ys
+tail-of a b xs ys e h =
+    sym (drop-append-seam (name-field a) xs) ∙ ap (drop (length (name-field a))) h ∙ ap (λ (z : Bytes). drop (length (name-field z)) (name-field b ++ ys)) e ∙ drop-append-seam (name-field b) ys
+
+no-entry : (n x : Bytes) → [] ≡ name-field n ++ x → ⊥
+no-entry n x e = absurd (omega (arith, ap length e, length-append (name-field n) x, name-field-length n))
+
+pub unique-map : (m k : NameMap) → Limited m → Limited k → map-bytes m ≡ map-bytes k → m ≡ k
+unfolding map-bytes Limited
+unique-map [] [] l r e = refl
+unique-map [] ((o, n) ∷ k) l r e = absurd (no-entry o _ e)
+unique-map ((o, n) ∷ m) [] l r e = absurd (no-entry o _ (sym e))
+unique-map ((o, n) ∷ m) ((o′, n′) ∷ k) l r e =
+    let p = name-head o o′ _ _ (l .0) (r .0) e in
+    let e₂ = tail-of o o′ _ _ p e in
+    let q = name-head n n′ _ _ (l .1) (r .1) e₂ in
+    let z = unique-map m k (l .2) (r .2) (tail-of n n′ _ _ q e₂) in
+    cc
+
+pub same-map : {mem : Bytes} {len : ℕ} {m k : NameMap} → MapAt mem len m → MapAt mem len k → m ≡ k
+same-map {m = m} {k = k} p q = unique-map m k (p .limited) (q .limited) (sym (p .there) ∙ q .there)
+
+-- what is answered of the tree and the map that are known to stand there is answered of every one
+pub tells-of : {A : Type 0} {owning : Bool} {bytes : A → Bytes} {Good : A → Type 0} {needs draws : A → ℕ} {Answers : NameMap → A → Type 0} {old new : Bytes} {t : Task}
+    → Unique bytes Good → (p : Ready owning bytes Good needs draws old t) → SameOutside old new (t .free) (length old - t .map) → Answers (p .m) (p .tree) → Tells bytes Good Answers old new t
+tells-of {A} {bytes = bytes} {Good} {Answers = Answers} {old} {t = t} u p f x =
+    record {
+      frame = f;
+      says = λ m k a at le g.
+          subst (λ (n : NameMap). Answers n a) (same-map (p .map) k) (subst (λ (b : A). Answers (p .m) b) (u old (p .tree) a (p .good) g (p .there) at) x);
+    }

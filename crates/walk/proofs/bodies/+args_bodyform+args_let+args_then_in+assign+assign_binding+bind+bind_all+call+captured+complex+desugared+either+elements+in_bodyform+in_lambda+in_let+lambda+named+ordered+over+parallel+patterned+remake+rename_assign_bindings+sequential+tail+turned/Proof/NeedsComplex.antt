@@ -1,0 +1,53 @@
+-- What `complex` needs to meet its contract.
+use borrow.Author.Needs.{needs}
+use native.Mathlib.Omega.{arith}
+use Prim.Native.Nat.{ℕ}
+use Rattle.walk.proofs.bodies.complex.Reads as complex
+use Rattle.walk.proofs.bodies.+args_bodyform+args_let+args_then_in+assign+assign_binding+bind+bind_all+call+captured+complex+desugared+either+elements+in_bodyform+in_lambda+in_let+lambda+named+ordered+over+parallel+patterned+remake+rename_assign_bindings+sequential+tail+turned.Lts-complex as complex-lts
+use Rattle.walk.proofs.bodies.+args_bodyform+args_let+args_then_in+assign+assign_binding+bind+bind_all+call+captured+complex+desugared+either+elements+in_bodyform+in_lambda+in_let+lambda+named+ordered+over+parallel+patterned+remake+rename_assign_bindings+sequential+tail+turned.Proof.Base.{complex-at, complex-calls}
+use Rattle.walk.proofs.NamedLaws.{drawable, invent-refused, named-ready, complex-done}
+
+-- places
+module _ (t : ℕ) where
+  abbrev start : complex-lts.After-invent-new-names-sexp (complex-calls t) (complex-at t) complex.Post → complex-lts.Start (complex-calls t) (complex-at t) complex.Post
+  start c = c .before .before .before
+
+  abbrev drawn : complex-lts.After-known-told2 (complex-calls t) (complex-at t) complex.Post → complex-lts.After-invent-new-names-sexp (complex-calls t) (complex-at t) complex.Post
+  drawn c = c .before .before .before .before .before
+
+  abbrev refused : complex-lts.After-known-told (complex-calls t) (complex-at t) complex.Post → complex-lts.After-invent-new-names-sexp (complex-calls t) (complex-at t) complex.Post
+  refused c = c .before .before .before .before .before
+
+-- needs
+module _ (t : ℕ) where
+  pub invent-new-names-sexp-requires : complex-lts.Need-invent-new-names-sexp-requires (complex-calls t) (complex-at t) complex.Post
+  invent-new-names-sexp-requires c κs = drawable (c .before .before .pre .1)
+
+  pub enum-known-r : complex-lts.Need-enum-known-r (complex-calls t) (complex-at t) complex.Post
+  enum-known-r c = search needs
+
+  pub enum-known-g : complex-lts.Need-enum-known-g (complex-calls t) (complex-at t) complex.Post
+  enum-known-g c = search needs
+
+  pub named-requires : complex-lts.Need-named-requires (complex-calls t) (complex-at t) complex.Post
+  named-requires c κs =
+      let e = c .before in
+      let d = drawn t e in
+      let s = start t d in
+      (omega (arith, s .pre .0), named-ready (s .pre .1) (d .invent-new-names-sexp .ensures) (e .before .g .given .1))
+
+  pub same-length : complex-lts.Need-same-length (complex-calls t) (complex-at t) complex.Post
+  same-length c = search needs
+
+  pub returns : complex-lts.Need-returns (complex-calls t) (complex-at t) complex.Post
+  returns c = let d = refused t c in invent-refused (start t d .pre .1) (d .invent-new-names-sexp .ensures) _ (c .before .r .given .1)
+
+  pub same-length-2 : complex-lts.Need-same-length-2 (complex-calls t) (complex-at t) complex.Post
+  same-length-2 c = search needs
+
+  pub returns-2 : complex-lts.Need-returns-2 (complex-calls t) (complex-at t) complex.Post
+  returns-2 c =
+      let n = c .before .before in
+      let e = n .before .before in
+      let d = drawn t e in
+      complex-done (start t d .pre .1) (d .invent-new-names-sexp .ensures) (e .before .g .given .1) (n .named .ensures)
