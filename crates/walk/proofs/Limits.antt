@@ -1,6 +1,5 @@
--- The walk runs within its bounds: a rule with fuel d, on a record at most d deep that has n atoms (Atoms.antt), refuses with 5, 6 or 7 alone (and so
--- never runs out of fuel), draws
--- at most n times 2 to the d numbers, and gives back a record no deeper and with no more atoms. So no call runs out of fuel, and each moves the
+-- The walk runs within its bounds: a rule with fuel d, on a record at most d deep that has n atoms (specs/Draws.antt), refuses with 5, 6 or 7 alone (and
+-- so never runs out of fuel), draws at most n times 2 to the d numbers, and gives back a record no deeper and with no more atoms. So no call runs out of fuel, and each moves the
 -- counter by at most 2 to the 46. Assumes nothing.
 use mathlib.Core.Path.{_≡_, refl, ap, _∙_}
 use mathlib.Core.Logic.{_⊎_, inl, inr}

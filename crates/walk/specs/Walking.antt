@@ -103,7 +103,7 @@ Walks Only owning old new t r =
     Tells body-bytes (Fine Only (t .f) (t .depth))
     (λ m b. Gives body-bytes new (t .free) (length (body-bytes b)) (outcome (rule (t .f) owning (t .depth) m b (t .counter) 0)) r) old new t
 
--- what a parallel let of so many bindings holds at the end of memory: its new patterns and its map; a single pattern is at most F long
+-- what a parallel let of so many bindings holds at the end of memory: its new patterns and its map; of a single binding both take 4 F at most
 abbrev pub let-aside : ℕ → ℕ → ℕ
 let-aside F zero = 5 * F
 let-aside F (suc zero) = 4 * F

@@ -42,12 +42,12 @@ use records::record::body_mark;
 ghost use mathlib.Core.Bool.{true, false};
 ghost use Rattle.records.specs.Records.{Parallel, Sequential, Assign};
 ghost use Rattle.records.specs.Valid.{IsLet};
+ghost use Rattle.walk.specs.AssignWalks.{OrderedReady, TurnedReady, Turns, BindingsReady, MakesBindings, BindingReady, MakesBinding, ComplexReady, MakesComplex, NamedReady, MakesNamed, RemakeReady, Remakes};
 ghost use Rattle.walk.specs.CallWalks.{ElementsReady, WalksElements, TailReady, WalksTail};
 ghost use Rattle.walk.specs.LambdaWalks.{CapturedReady, WalksCaptured};
-ghost use Rattle.walk.specs.SequentialWalks.{NestedReady, WalksNested};
 ghost use Rattle.walk.specs.LetWalks.{BindReady, Binds, AllReady, BindsAll, PatternedReady, WalksPatterned};
+ghost use Rattle.walk.specs.SequentialWalks.{NestedReady, WalksNested};
 ghost use Rattle.walk.specs.Walking.{AnyBody, IsBinder, IsCall, IsLambda, BodyReady, Walks, BothReady, WalksBoth, OverReady, GoesOver, ParallelReady};
-ghost use Rattle.walk.specs.AssignWalks.{OrderedReady, TurnedReady, Turns, BindingsReady, MakesBindings, BindingReady, MakesBinding, ComplexReady, MakesComplex, NamedReady, MakesNamed, RemakeReady, Remakes};
 
 // How many times F the head of an assign and its made bindings take; each binding is made behind.
 const BINDINGS_ROOM: usize = 3;

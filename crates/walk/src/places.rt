@@ -2,9 +2,8 @@
 use names::bytes::copy;
 use records::Family;
 use records::skip::past_record;
-ghost use mathlib.Core.Path.{_≡_};
-ghost use Rattle.walk.specs.CallWalks.{BackRoom, PutsBack, backs};
 ghost use mathlib.Core.List.{List};
+ghost use mathlib.Core.Path.{_≡_};
 ghost use Prim.Native.Nat.{suc, _≤_, _<_};
 ghost use lib.ListN.{length, getD};
 ghost use Rattle.names.specs.Segments.{At};
@@ -12,6 +11,7 @@ ghost use Rattle.records.specs.Lists.{joined, Each};
 ghost use Rattle.records.specs.Parts.{ValidBinding};
 ghost use Rattle.records.specs.Records.{Binding, binding-bytes};
 ghost use Rattle.walk.specs.AssignWalks.{BindingStarts};
+ghost use Rattle.walk.specs.CallWalks.{BackRoom, PutsBack, backs};
 
 // Where the bindings from a place on start, and where the last of them ends.
 pub fn binding_starts(s: &[u8], first: usize, starts: &mut [usize])

@@ -22,8 +22,8 @@ ghost use Prim.Native.Nat.{_≤_};
 ghost use Rattle.records.specs.Limits.{cons-limit, most-longest};
 ghost use Rattle.records.specs.Records.{sexp-bytes};
 ghost use Rattle.walk.specs.Arena.{Asks, Held};
-ghost use Rattle.walk.specs.NewNames.{names-task, PutsNames, ArgsReady, DrawsArgs, NameReady, DrawsName, PatternReady, DrawsPattern, added};
 ghost use Rattle.walk.specs.LetWalks.{HeadReady, PutsHead};
+ghost use Rattle.walk.specs.NewNames.{names-task, PutsNames, ArgsReady, DrawsArgs, NameReady, DrawsName, PatternReady, DrawsPattern, added};
 ghost use Rattle.walk.specs.Scopes.{PatternsReady, DrawsPatterns};
 ghost use Rattle.walk.specs.Walking.{let-aside};
 
@@ -92,8 +92,8 @@ fn make_binding_unique(mem: &mut [u8], free: usize, f: usize, counter: u64) -> D
     }
 }
 
-// How much the end of memory holds beside the results of a parallel let: its map, and its new patterns;
-// a single one is at most F long.
+// How much the end of memory holds beside the results of a parallel let: its map, and its new patterns.
+// Of a single binding both take 4 F at most.
 pub fn let_room(count: u8, f: usize) -> usize
     requires { ⌜ f ≤ most-longest ⌝ }
     ensures { λ r. ⌜ r ≡ let-aside f count ⌝ }

@@ -1,4 +1,4 @@
--- Own and In-body meet their contracts: what falls is in Base, what each function needs in a file of its own.
+-- Own and In-body meet their contracts: what falls is in Base, what each function needs in a file of its own. Assumes nothing.
 mod Base
 mod NeedsArgsBodyform
 mod NeedsArgsLet

@@ -5,15 +5,12 @@ use borrow.Author.Needs.{needs}
 use Rattle.walk.proofs.keep.finished.Statement.{statement}
 use Rattle.walk.proofs.keep.finished.Tie as tie
 
--- src/keep.rt:26:9
 over-long-requires : tie.Need-over-long-requires
 over-long-requires c κs = search needs
 
--- src/keep.rt:26:9
 returns : tie.Need-returns
 returns c = record { fits = λ le. absurd (omega (arith, c .before .if1 .taken)); long = λ lt. c .over-long .ensures }
 
--- src/keep.rt:22:1
 returns-2 : tie.Need-returns-2
 returns-2 c = record { fits = λ le. refl; long = λ lt. absurd (omega (arith, c .if1 .left)) }
 

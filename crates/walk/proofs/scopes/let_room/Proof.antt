@@ -1,21 +1,18 @@
+-- `walk::scopes::let_room` meets its contract. Assumes nothing.
 use Rattle.walk.proofs.LetLaws.{aside-one, aside-other}
 use borrow.Author.Needs.{needs}
 use Rattle.walk.proofs.scopes.let_room.Statement.{statement}
 use Rattle.walk.proofs.scopes.let_room.Tie as tie
 
--- src/scopes.rt:86:16
 mul-result : tie.Need-mul-result
 mul-result c = search needs
 
--- src/scopes.rt:86:9
 returns : tie.Need-returns
 returns c = aside-one _ _ (c .if1 .taken)
 
--- src/scopes.rt:88:5
 mul-result-2 : tie.Need-mul-result-2
 mul-result-2 c = search needs
 
--- src/scopes.rt:81:1
 returns-2 : tie.Need-returns-2
 returns-2 c = aside-other _ _ (c .if1 .left)
 

@@ -1,4 +1,4 @@
--- What falls in the cycle of Own and In-body: 16 times the levels that are left, and the phase; and what each function of it calls.
+-- What falls in the cycle of Own and In-body: 16 times the levels that are left, and the phase; and what each function of it calls. Assumes nothing.
 use Prim.Native.Nat.{ℕ, _+_, _*_, _<_}
 use borrow.Fn.Kinds.{In}
 use borrow.Fn.PlainCycle.{Measures, is, falls, and}

@@ -1,4 +1,4 @@
--- What `args_then_in` needs to meet its contract.
+-- What `args_then_in` needs to meet its contract. Assumes nothing.
 use borrow.Author.Needs.{needs}
 use mathlib.Core.Path.{sym}
 use native.Mathlib.Omega.{arith}

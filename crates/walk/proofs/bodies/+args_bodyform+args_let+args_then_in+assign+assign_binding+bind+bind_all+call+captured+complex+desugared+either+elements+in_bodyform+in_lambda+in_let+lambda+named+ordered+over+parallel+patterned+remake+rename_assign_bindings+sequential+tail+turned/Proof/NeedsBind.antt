@@ -1,4 +1,4 @@
--- What `bind` needs to meet its contract.
+-- What `bind` needs to meet its contract. Assumes nothing.
 use Rattle.walk.proofs.BindLaws.{bind-room, own-place, own-end, own-ready, own-bound, in-ready, in-bound}
 use borrow.Author.Needs.{needs}
 use native.Mathlib.Omega.{arith}

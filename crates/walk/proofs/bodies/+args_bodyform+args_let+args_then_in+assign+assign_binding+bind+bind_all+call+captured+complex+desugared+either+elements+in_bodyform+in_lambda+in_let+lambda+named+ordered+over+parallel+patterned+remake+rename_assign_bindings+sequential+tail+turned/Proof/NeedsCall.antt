@@ -1,4 +1,4 @@
--- What `call` needs to meet its contract.
+-- What `call` needs to meet its contract. Assumes nothing.
 use borrow.Author.Needs.{needs}
 use native.Mathlib.Omega.{arith}
 use Prim.Native.Nat.{ℕ, _+_, _≤_}

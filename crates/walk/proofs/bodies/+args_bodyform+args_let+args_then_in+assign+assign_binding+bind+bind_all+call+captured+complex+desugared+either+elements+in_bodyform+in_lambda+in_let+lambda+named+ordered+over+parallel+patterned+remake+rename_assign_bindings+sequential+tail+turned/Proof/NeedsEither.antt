@@ -1,4 +1,4 @@
--- What `either` needs to meet its contract.
+-- What `either` needs to meet its contract. Assumes nothing.
 use borrow.Author.Needs.{needs}
 use mathlib.Core.Bool.{true, false}
 use native.Mathlib.Omega.{arith}

@@ -1,4 +1,4 @@
--- What `in_let` needs to meet its contract.
+-- What `in_let` needs to meet its contract. Assumes nothing.
 use Rattle.walk.proofs.LetInBody.{wide, deep, copy-moves, all-ready, bindings-refused, past, written, summed, reads, body-ready, body-refused, body-sizes, body-over, let-finished}
 use borrow.Author.Needs.{needs}
 use native.Mathlib.Omega.{arith}

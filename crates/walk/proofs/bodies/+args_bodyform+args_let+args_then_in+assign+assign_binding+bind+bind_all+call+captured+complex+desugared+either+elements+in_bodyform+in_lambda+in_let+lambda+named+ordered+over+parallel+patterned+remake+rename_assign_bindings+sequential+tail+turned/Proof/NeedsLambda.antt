@@ -1,4 +1,4 @@
--- What `lambda` needs to meet its contract.
+-- What `lambda` needs to meet its contract. Assumes nothing.
 use borrow.Author.Needs.{needs}
 use native.Mathlib.Omega.{arith}
 use denote.Ref.{now}

@@ -1,4 +1,4 @@
--- What `over` needs to meet its contract.
+-- What `over` needs to meet its contract. Assumes nothing.
 use borrow.Author.Needs.{needs}
 use native.Mathlib.Omega.{arith}
 use Prim.Native.Nat.{ℕ}

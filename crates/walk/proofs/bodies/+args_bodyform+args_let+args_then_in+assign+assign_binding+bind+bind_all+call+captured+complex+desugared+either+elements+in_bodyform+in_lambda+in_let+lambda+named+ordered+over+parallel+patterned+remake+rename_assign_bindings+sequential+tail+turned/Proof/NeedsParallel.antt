@@ -1,4 +1,4 @@
--- What `parallel` needs to meet its contract.
+-- What `parallel` needs to meet its contract. Assumes nothing.
 use Rattle.walk.proofs.LetParallel.{aside-short, patterns-ready, patterns-refused, patterned-ready, parallel-done}
 use borrow.Author.Needs.{needs}
 use native.Mathlib.Omega.{arith}

@@ -1,4 +1,4 @@
--- What `patterned` needs to meet its contract.
+-- What `patterned` needs to meet its contract. Assumes nothing.
 use Rattle.walk.proofs.LetPatterned.{low, deep, aside-end, copy-moves, all-ready, bindings-refused, past, written, reads, both-ready, body-refused, body-sizes, let-finished}
 use borrow.Author.Needs.{needs}
 use native.Mathlib.Omega.{arith}

@@ -1,4 +1,4 @@
--- What `rename_assign_bindings` needs to meet its contract.
+-- What `rename_assign_bindings` needs to meet its contract. Assumes nothing.
 use borrow.Author.Needs.{needs}
 use native.Mathlib.Omega.{arith}
 use Prim.Native.Nat.{ℕ, _-_, _<_}

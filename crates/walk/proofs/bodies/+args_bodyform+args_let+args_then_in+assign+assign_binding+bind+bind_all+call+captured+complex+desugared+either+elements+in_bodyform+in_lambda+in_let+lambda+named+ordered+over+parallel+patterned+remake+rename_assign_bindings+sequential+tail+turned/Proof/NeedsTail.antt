@@ -1,4 +1,4 @@
--- What `tail` needs to meet its contract.
+-- What `tail` needs to meet its contract. Assumes nothing.
 use borrow.Author.Needs.{needs}
 use native.Mathlib.Omega.{arith}
 use lib.ListN.{getD, length-set}
