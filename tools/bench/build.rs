@@ -1,4 +1,4 @@
-//! Links the static library of the reader, which the environment variable RECORDS_LIB names.
+//! Links the static library of the calls and the reader, which the environment variable RENAME_LIB names.
 
 use std::env;
 use std::path::{Path, PathBuf};
@@ -6,15 +6,15 @@ use std::path::{Path, PathBuf};
 const DEFAULT_LIBRARY: &str = "../../target/staticlib/libexports.a";
 
 fn main() {
-    println!("cargo:rerun-if-env-changed=RECORDS_LIB");
+    println!("cargo:rerun-if-env-changed=RENAME_LIB");
     println!("cargo:rerun-if-changed=build.rs");
     let library = library();
     println!("cargo:rerun-if-changed={}", library.display());
     let (Some(folder), Some(name)) = (library.parent(), archive_name(&library)) else {
-        stop(&format!("RECORDS_LIB is no path to a libNAME.a: {}", library.display()));
+        stop(&format!("RENAME_LIB is no path to a libNAME.a: {}", library.display()));
     };
     if !library.is_file() {
-        stop(&format!("there is no {}: 'rt staticlib exports' makes it, or RECORDS_LIB names another", library.display()));
+        stop(&format!("there is no {}: 'rt staticlib exports' makes it, or RENAME_LIB names another", library.display()));
     }
     println!("cargo:rustc-link-search=native={}", folder.display());
     println!("cargo:rustc-link-lib=static={name}");
@@ -22,7 +22,7 @@ fn main() {
 
 fn library() -> PathBuf {
     let package = PathBuf::from(env::var("CARGO_MANIFEST_DIR").expect("cargo sets CARGO_MANIFEST_DIR"));
-    match env::var("RECORDS_LIB") {
+    match env::var("RENAME_LIB") {
         Ok(path) => PathBuf::from(path),
         Err(_) => package.join(DEFAULT_LIBRARY),
     }

@@ -12,8 +12,8 @@ use Rattle.names.specs.Segments.{At}
 use Rattle.records.specs.Depth.{depth}
 use Rattle.records.specs.Limits.{level-limit, cons-limit, lambda-limit}
 use Rattle.records.specs.Read.{kind-of}
-use Rattle.records.specs.Records.{head-width, mark-width, loc-width, integer-width, integer-field, byte, record-bytes, Kind, Parallel, Sequential, Assign, kind-field, Pattern, Name, Complex, pattern-field, Tail, no-tail, tail, tail-bytes, sexp-bytes, body-bytes, binding-bytes, helper-bytes, form-bytes, bodies-count, bindings-count, helpers-count}
-use Rattle.records.specs.Valid.{ValidLoc, SexpFields, cons-depth, BodyFields, BindingFields, HelperFields, FormFields, lambda-depth}
+use Rattle.records.specs.Records.{head-width, mark-width, loc-width, integer-width, integer-field, byte, record-bytes, Kind, Parallel, Sequential, Assign, kind-field, Pattern, Name, Complex, pattern-field, Tail, no-tail, tail, tail-bytes, Sexp, sexp-bytes, body-bytes, binding-bytes, HN, helper-bytes, Helpers, helpers-bytes, form-bytes, bodies-count, bindings-count, helpers-count}
+use Rattle.records.specs.Valid.{ValidLoc, ValidName, ValidRaw, ValidSexp, ValidHelper, SexpFields, cons-depth, BodyFields, BindingFields, HelperFields, FormFields, lambda-depth}
 use Rattle.records.specs.declared.Family.the-variants.{Body as a-body}
 use Rattle.records.specs.Parts.{Part, Past, fixed-part, name-part, raw-part, keyword-part, hint-part, pattern-part, sexp-part, family-part}
 use Rattle.records.specs.Views.{Stands, Closes, PastHead, SeesCall, SeesLet, SeesBinding, SeesLambda, SeesMod, SeesQuote, SeesValue, SeesForm, PastNamed, PastArgs, SeesFunction, SeesConstant, SeesMacro, SeesNamespace, SeesReference, SeesCons, SeesAtom, counted-field, SeesCounted, SeesName, SeesInteger, TaggedAt, PatternAt, TailAt, SeesTagged}
@@ -89,6 +89,14 @@ close-on {f = f} {fs} r e h = record { there = rw e (rest-of (h .there)); moved 
 
 pub close-step : {p : Part} {s : Bytes} {at r n : ℕ} {fs : List Bytes} → Past p s at r → (t : p .0) → p .2 t → Closes s at (p .1 t ∷ fs) n → Closes s r fs n
 close-step k t v h = close-on _ (k .past t v (first-of (h .there))) h
+
+-- where a record ends after its last field, and after its last two
+pub close-one : {s : Bytes} {p n : ℕ} {f : Bytes} → Closes s p (f ∷ []) n → p + length f ≡ n
+unfolding flatten
+close-one {f = f} h = omega (arith, h .whole, length-append f [])
+
+pub close-two : {s : Bytes} {p n : ℕ} {f g : Bytes} → Closes s p (f ∷ g ∷ []) n → p + length f + length g ≡ n
+close-two h = close-one (close-on _ refl h)
 
 -- the byte at a place
 abbrev pub ByteAt : Bytes → ℕ → ℕ → Type 0
@@ -279,11 +287,20 @@ module _ {s : Bytes} {raw args at count first : ℕ} where
   pub sees-form : PastHead s raw → Past raw-part s raw args → Past sexp-part s args at → ByteAt s at count → Past (fixed-part 1) s at first
       → SeesForm s (record { raw = raw; args = args; count = count; first = first })
   unfolding ascii form-bytes FormFields
-  sees-form x xr xa bc xc l r a hs b v e =
-      let hr = x .past (ascii "CF") l _ refl (v .0 .0) (opened "CF" _ e) in
-      let ha = step xr r (v .0 .1) hr in
-      let hc = step xa a (v .0 .2) ha in
-      record { raw = first-of hr; args = first-of ha; count = byte-is bc _ (first-of hc); rest = step xc _ (byte-length (helpers-count hs)) hc }
+  sees-form x xr xa bc xc = record {
+    sees = λ l r a hs b v e.
+        let hr = x .past (ascii "CF") l _ refl (v .0 .0) (opened "CF" _ e) in
+        let ha = step xr r (v .0 .1) hr in
+        let hc = step xa a (v .0 .2) ha in
+        record { raw = first-of hr; args = first-of ha; count = byte-is bc _ (first-of hc); rest = step xc _ (byte-length (helpers-count hs)) hc };
+    ends = λ l r a hs b v e.
+        let ha = close-step xr r (v .0 .1) (close-head "CF" x l _ refl (v .0 .0) e) in
+        let hc = close-step xa a (v .0 .2) ha in
+        let one = byte-length (helpers-count hs) in
+        let at-count = xa .past a (v .0 .2) (first-of (ha .there)) in
+        let at-first = xc .past _ one (first-of (hc .there)) in
+        (omega (arith, at-count, at-first, one), close-two (close-step xc _ one hc));
+  }
 
 module _ {s : Bytes} {at raw next : ℕ} where
   pub past-named : Past name-part s at raw → Past raw-part s raw next → PastNamed s at (record { name = at; raw = raw; next = next })
@@ -292,6 +309,7 @@ module _ {s : Bytes} {at raw next : ℕ} where
     past = λ n r fs vn vr h.
         let hr = step x n vn h in
         record { name = first-of h; raw = first-of hr; rest = step y r vr hr };
+    ends = λ n r fs vn vr h. omega (arith, x .past n vn (first-of h), y .past r vr (first-of (step x n vn h)));
   }
 
 module _ {s : Bytes} {at next : ℕ} {v : NamedView} where
@@ -300,33 +318,63 @@ module _ {s : Bytes} {at next : ℕ} {v : NamedView} where
     past = λ n r a fs vn vr va h.
         let w = x .past n r _ vn vr h in
         record { name = w .name; raw = w .raw; args = first-of (w .rest); rest = step y a va (w .rest) };
+    ends = λ n r a fs vn vr va h. (x .ends n r _ vn vr h, y .past a va (first-of (x .past n r _ vn vr h .rest)));
   }
+
+-- a name and R are stepped over
+close-named : {s : Bytes} {at k : ℕ} {v : NamedView} {fs : List Bytes} → PastNamed s at v → (n r : Bytes) → ValidName n → ValidRaw r → Closes s at (name-field n ∷ r ∷ fs) k → Closes s (v .next) fs k
+close-named x n r vn vr h = close-on _ (x .ends n r _ vn vr (h .there)) (close-on _ refl h)
+
+-- where args end, and the record with the field after them
+close-args : {s : Bytes} {at k : ℕ} {v : ArgsView} {f : Bytes} → PastArgs s at v → (n r : Bytes) (a : Sexp) → ValidName n → ValidRaw r → ValidSexp a → Closes s at (name-field n ∷ r ∷ sexp-bytes a ∷ f ∷ []) k
+    → (v .next ≡ v .args + length (sexp-bytes a)) × (v .next + length f ≡ k)
+close-args x n r a vn vr va h =
+    let e = x .ends n r a _ vn vr va (h .there) in
+    (e .1, close-one (close-on _ (e .1) (close-on _ (e .0) (close-on _ refl h))))
 
 module _ {s : Bytes} {at : ℕ} {v : NamedView} where
   pub sees-constant : PastHead s at → PastNamed s at v → SeesConstant s v
   unfolding ascii helper-bytes HelperFields
-  sees-constant x y l n r b f a = y .past n r _ (f .0 .1) (f .0 .2) (x .past (ascii "HC") l _ refl (f .0 .0) (opened "HC" _ a))
+  sees-constant x y = record {
+    sees = λ l n r b f a. y .past n r _ (f .0 .1) (f .0 .2) (x .past (ascii "HC") l _ refl (f .0 .0) (opened "HC" _ a));
+    ends = λ l n r b f a. close-one (close-named y n r (f .0 .1) (f .0 .2) (close-head "HC" x l _ refl (f .0 .0) a));
+  }
 
   pub sees-reference : PastHead s at → PastNamed s at v → SeesReference s v
-  unfolding ascii helper-bytes HelperFields
-  sees-reference x y l n r f a = y .past n r _ (f .0 .1) (f .0 .2) (x .past (ascii "HR") l _ refl (f .0 .0) (opened "HR" _ a))
+  unfolding ascii helper-bytes HelperFields flatten
+  sees-reference x y = record {
+    sees = λ l n r f a. y .past n r _ (f .0 .1) (f .0 .2) (x .past (ascii "HR") l _ refl (f .0 .0) (opened "HR" _ a));
+    ends = λ l n r f a. omega (arith, close-named y n r (f .0 .1) (f .0 .2) (close-head "HR" x l _ refl (f .0 .0) a) .whole);
+  }
 
   pub sees-namespace : {count first : ℕ} → PastHead s at → PastNamed s at v → ByteAt s (v .next) count → Past (fixed-part 1) s (v .next) first
       → SeesNamespace s (record { name = v .name; raw = v .raw; count = count; first = first })
   unfolding ascii helper-bytes HelperFields
-  sees-namespace x y bc xc l n r hs f a =
-      let w = y .past n r _ (f .0 .1) (f .0 .2) (x .past (ascii "HN") l _ refl (f .0 .0) (opened "HN" _ a)) in
-      record { name = w .name; raw = w .raw; count = byte-is bc _ (first-of (w .rest)); rest = first-of (step xc _ (byte-length (helpers-count hs)) (w .rest)) }
+  sees-namespace {first = first} x y bc xc =
+      let closed : (l n r : Bytes) (hs : Helpers) → ValidHelper (HN l n r hs) → At s 0 (helper-bytes (HN l n r hs)) → Closes s first (helpers-bytes hs ∷ []) (length (helper-bytes (HN l n r hs))) =
+      λ l n r hs f a. close-step xc _ (byte-length (helpers-count hs)) (close-named y n r (f .0 .1) (f .0 .2) (close-head "HN" x l _ refl (f .0 .0) a)) in
+      record {
+        sees = λ l n r hs f a.
+            let w = y .past n r _ (f .0 .1) (f .0 .2) (x .past (ascii "HN") l _ refl (f .0 .0) (opened "HN" _ a)) in
+            record { name = w .name; raw = w .raw; count = byte-is bc _ (first-of (w .rest)); rest = first-of (step xc _ (byte-length (helpers-count hs)) (w .rest)) };
+        counted = λ l n r hs f a. omega (arith, closed l n r hs f a .moved);
+        ends = λ l n r hs f a. close-one (closed l n r hs f a);
+      }
 
 module _ {s : Bytes} {at : ℕ} {v : ArgsView} where
   pub sees-macro : PastHead s at → PastArgs s at v → SeesMacro s v
   unfolding ascii helper-bytes HelperFields
-  sees-macro x y l n r a c f e = y .past n r a _ (f .0 .1) (f .0 .2) (f .0 .3) (x .past (ascii "HM") l _ refl (f .0 .0) (opened "HM" _ e))
+  sees-macro x y = record {
+    sees = λ l n r a c f e. y .past n r a _ (f .0 .1) (f .0 .2) (f .0 .3) (x .past (ascii "HM") l _ refl (f .0 .0) (opened "HM" _ e));
+    ends = λ l n r a c f e. close-args y n r a (f .0 .1) (f .0 .2) (f .0 .3) (close-head "HM" x l _ refl (f .0 .0) e);
+  }
 
   pub sees-function : {b : ℕ} → PastHead s b → Past (fixed-part 1) s b at → PastArgs s at v → SeesFunction s v
   unfolding ascii helper-bytes HelperFields
-  sees-function x z y l i n r a c f e =
-      y .past n r a _ (f .0 .2) (f .0 .3) (f .0 .4) (step z _ (byte-length i) (x .past (ascii "HD") l _ refl (f .0 .0) (opened "HD" _ e)))
+  sees-function x z y = record {
+    sees = λ l i n r a c f e. y .past n r a _ (f .0 .2) (f .0 .3) (f .0 .4) (step z _ (byte-length i) (x .past (ascii "HD") l _ refl (f .0 .0) (opened "HD" _ e)));
+    ends = λ l i n r a c f e. close-args y n r a (f .0 .2) (f .0 .3) (f .0 .4) (close-step z _ (byte-length i) (close-head "HD" x l _ refl (f .0 .0) e));
+  }
 
 module _ {s : Bytes} {head tail : ℕ} where
   pub sees-cons : PastHead s head → Past sexp-part s head tail → SeesCons s (record { head = head; tail = tail })

@@ -173,8 +173,10 @@ pub record FormAt (s : Bytes) (v : FormView) (r : Bytes) (a : Sexp) (hs : Helper
   pub count : v .count ≡ helpers-count hs
   pub rest : Stands s (v .first) (helpers-bytes hs ∷ body-bytes b ∷ [])
 
-abbrev pub SeesForm : Bytes → FormView → Type 0
-SeesForm s v = (l : Loc) (r : Bytes) (a : Sexp) (hs : Helpers) (b : Body) → ValidForm (CF l r a hs b) → At s 0 (form-bytes (CF l r a hs b)) → FormAt s v r a hs b
+-- of a CF: its helpers stand behind its args and the count byte; it ends with its body
+pub record SeesForm (s : Bytes) (v : FormView) : Type 0 where
+  pub sees : (l : Loc) (r : Bytes) (a : Sexp) (hs : Helpers) (b : Body) → ValidForm (CF l r a hs b) → At s 0 (form-bytes (CF l r a hs b)) → FormAt s v r a hs b
+  pub ends : (l : Loc) (r : Bytes) (a : Sexp) (hs : Helpers) (b : Body) → ValidForm (CF l r a hs b) → At s 0 (form-bytes (CF l r a hs b)) → (v .first ≡ v .args + length (sexp-bytes a) + 1) × (v .first + length (helpers-bytes hs) + length (body-bytes b) ≡ length (form-bytes (CF l r a hs b)))
 
 -- a name and R, and the fields after them
 pub record NamedAt (s : Bytes) (v : NamedView) (n r : Bytes) (fields : List Bytes) : Type 0 where
@@ -182,9 +184,11 @@ pub record NamedAt (s : Bytes) (v : NamedView) (n r : Bytes) (fields : List Byte
   pub raw : At s (v .raw) r
   pub rest : Stands s (v .next) fields
 
+-- what a view of a name and R says, and where R ends
 pub record PastNamed (s : Bytes) (at : ℕ) (v : NamedView) : Type 0 where
   pub within : v .next ≤ length s
   pub past : (n r : Bytes) (fields : List Bytes) → ValidName n → ValidRaw r → Stands s at (name-field n ∷ r ∷ fields) → NamedAt s v n r fields
+  pub ends : (n r : Bytes) (fields : List Bytes) → ValidName n → ValidRaw r → Stands s at (name-field n ∷ r ∷ fields) → v .next ≡ at + length (name-field n) + length r
 
 -- a name, R and args, and the fields after them
 pub record ArgsAt (s : Bytes) (v : ArgsView) (n r : Bytes) (a : Sexp) (fields : List Bytes) : Type 0 where
@@ -193,18 +197,25 @@ pub record ArgsAt (s : Bytes) (v : ArgsView) (n r : Bytes) (a : Sexp) (fields : 
   pub args : At s (v .args) (sexp-bytes a)
   pub rest : Stands s (v .next) fields
 
+-- what a view of a name, R and args says, and where R and args end
 pub record PastArgs (s : Bytes) (at : ℕ) (v : ArgsView) : Type 0 where
   pub past : (n r : Bytes) (a : Sexp) (fields : List Bytes) → ValidName n → ValidRaw r → ValidSexp a → Stands s at (name-field n ∷ r ∷ sexp-bytes a ∷ fields) → ArgsAt s v n r a fields
+  pub ends : (n r : Bytes) (a : Sexp) (fields : List Bytes) → ValidName n → ValidRaw r → ValidSexp a → Stands s at (name-field n ∷ r ∷ sexp-bytes a ∷ fields) → (v .args ≡ at + length (name-field n) + length r) × (v .next ≡ v .args + length (sexp-bytes a))
 
--- an HD, an HC, an HM
-abbrev pub SeesFunction : Bytes → ArgsView → Type 0
-SeesFunction s v = (l : Loc) (i : ℕ) (n r : Bytes) (a : Sexp) (b : Body) → ValidHelper (HD l i n r a b) → At s 0 (helper-bytes (HD l i n r a b)) → ArgsAt s v n r a (body-bytes b ∷ [])
+-- of an HD: its body stands right behind its args; it ends with it
+pub record SeesFunction (s : Bytes) (v : ArgsView) : Type 0 where
+  pub sees : (l : Loc) (i : ℕ) (n r : Bytes) (a : Sexp) (b : Body) → ValidHelper (HD l i n r a b) → At s 0 (helper-bytes (HD l i n r a b)) → ArgsAt s v n r a (body-bytes b ∷ [])
+  pub ends : (l : Loc) (i : ℕ) (n r : Bytes) (a : Sexp) (b : Body) → ValidHelper (HD l i n r a b) → At s 0 (helper-bytes (HD l i n r a b)) → (v .next ≡ v .args + length (sexp-bytes a)) × (v .next + length (body-bytes b) ≡ length (helper-bytes (HD l i n r a b)))
 
-abbrev pub SeesConstant : Bytes → NamedView → Type 0
-SeesConstant s v = (l : Loc) (n r : Bytes) (b : Body) → ValidHelper (HC l n r b) → At s 0 (helper-bytes (HC l n r b)) → NamedAt s v n r (body-bytes b ∷ [])
+-- of an HC: it ends with its body
+pub record SeesConstant (s : Bytes) (v : NamedView) : Type 0 where
+  pub sees : (l : Loc) (n r : Bytes) (b : Body) → ValidHelper (HC l n r b) → At s 0 (helper-bytes (HC l n r b)) → NamedAt s v n r (body-bytes b ∷ [])
+  pub ends : (l : Loc) (n r : Bytes) (b : Body) → ValidHelper (HC l n r b) → At s 0 (helper-bytes (HC l n r b)) → v .next + length (body-bytes b) ≡ length (helper-bytes (HC l n r b))
 
-abbrev pub SeesMacro : Bytes → ArgsView → Type 0
-SeesMacro s v = (l : Loc) (n r : Bytes) (a : Sexp) (f : Form) → ValidHelper (HM l n r a f) → At s 0 (helper-bytes (HM l n r a f)) → ArgsAt s v n r a (form-bytes f ∷ [])
+-- of an HM: its CF stands right behind its args; it ends with it
+pub record SeesMacro (s : Bytes) (v : ArgsView) : Type 0 where
+  pub sees : (l : Loc) (n r : Bytes) (a : Sexp) (f : Form) → ValidHelper (HM l n r a f) → At s 0 (helper-bytes (HM l n r a f)) → ArgsAt s v n r a (form-bytes f ∷ [])
+  pub ends : (l : Loc) (n r : Bytes) (a : Sexp) (f : Form) → ValidHelper (HM l n r a f) → At s 0 (helper-bytes (HM l n r a f)) → (v .next ≡ v .args + length (sexp-bytes a)) × (v .next + length (form-bytes f) ≡ length (helper-bytes (HM l n r a f)))
 
 -- an HN: name and R; how many helpers; they
 pub record NamespaceAt (s : Bytes) (v : NamespaceView) (n r : Bytes) (hs : Helpers) : Type 0 where
@@ -213,12 +224,16 @@ pub record NamespaceAt (s : Bytes) (v : NamespaceView) (n r : Bytes) (hs : Helpe
   pub count : v .count ≡ helpers-count hs
   pub rest : At s (v .first) (helpers-bytes hs)
 
-abbrev pub SeesNamespace : Bytes → NamespaceView → Type 0
-SeesNamespace s v = (l : Loc) (n r : Bytes) (hs : Helpers) → ValidHelper (HN l n r hs) → At s 0 (helper-bytes (HN l n r hs)) → NamespaceAt s v n r hs
+-- of an HN: its helpers stand behind the count byte; it ends with them
+pub record SeesNamespace (s : Bytes) (v : NamespaceView) : Type 0 where
+  pub sees : (l : Loc) (n r : Bytes) (hs : Helpers) → ValidHelper (HN l n r hs) → At s 0 (helper-bytes (HN l n r hs)) → NamespaceAt s v n r hs
+  pub counted : (l : Loc) (n r : Bytes) (hs : Helpers) → ValidHelper (HN l n r hs) → At s 0 (helper-bytes (HN l n r hs)) → 1 ≤ v .first
+  pub ends : (l : Loc) (n r : Bytes) (hs : Helpers) → ValidHelper (HN l n r hs) → At s 0 (helper-bytes (HN l n r hs)) → v .first + length (helpers-bytes hs) ≡ length (helper-bytes (HN l n r hs))
 
--- an HR
-abbrev pub SeesReference : Bytes → NamedView → Type 0
-SeesReference s v = (l : Loc) (n r : Bytes) → ValidHelper (HR l n r) → At s 0 (helper-bytes (HR l n r)) → NamedAt s v n r []
+-- of an HR: it ends with R
+pub record SeesReference (s : Bytes) (v : NamedView) : Type 0 where
+  pub sees : (l : Loc) (n r : Bytes) → ValidHelper (HR l n r) → At s 0 (helper-bytes (HR l n r)) → NamedAt s v n r []
+  pub ends : (l : Loc) (n r : Bytes) → ValidHelper (HR l n r) → At s 0 (helper-bytes (HR l n r)) → v .next ≡ length (helper-bytes (HR l n r))
 
 -- an SC: its head and its tail
 pub record ConsAt (s : Bytes) (v : ConsView) (h t : Sexp) : Type 0 where

@@ -7,19 +7,15 @@ use crate::kind;
 use crate::kind::Kind;
 use crate::refusal;
 use crate::say;
+use crate::task::WORK;
 use crate::usage;
 use records::Family;
-use records::MOST_LONGEST;
 use records::Opening;
-use records::WORK_FACTOR;
 use records::Wanted;
 use records::count::count_records;
 use records::input::open_input;
 ghost use mathlib.Core.Path.{_≡_};
 ghost use Rattle.rename.specs.Records.{wanted-family, RecordsIn};
-
-// The length of work memory that is enough for every F.
-const WORK: usize = WORK_FACTOR * MOST_LONGEST;
 
 // Reads KIND and F, and goes on to the file.
 pub fn run() {
@@ -32,11 +28,9 @@ pub fn run() {
     match kind::parse(&word[..n]) {
         Kind::Nothing => usage::print(),
         Kind::Is(wanted) => {
-            let mut digits = io::buffer();
-            let n = os::arg(4, &mut digits);
-            match counter::parse(&digits[..n]) {
-                Counter::Nothing => usage::print(),
-                Counter::Is(f) => read(wanted, f as usize),
+            let c = counter::argument(4);
+            if let Counter::Is(f) = c {
+                read(wanted, f as usize);
             }
         }
     }

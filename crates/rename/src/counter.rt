@@ -1,4 +1,5 @@
-// A counter, read from its decimal digits.
+// A counter or an F, read from its decimal digits.
+use crate::say;
 ghost use mathlib.Core.Path.{_≡_};
 ghost use Rattle.rename.specs.Counters.{counter-of};
 
@@ -6,6 +7,19 @@ ghost use Rattle.rename.specs.Counters.{counter-of};
 pub enum Counter {
     Is(u64),
     Nothing,
+}
+
+// The number that an argument gives, or that it gives none is said.
+pub fn argument(i: usize) -> Counter {
+    let mut digits = io::buffer();
+    let n = os::arg(i, &mut digits);
+    let c = parse(&digits[..n]);
+    if let Counter::Nothing = c {
+        say::text(b"no number of 64 bits: ");
+        say::name(&digits[..n]);
+        say::text(b"\n");
+    }
+    c
 }
 
 // The number that 1 to 20 digits stand for, where it fits.

@@ -1,4 +1,4 @@
-// A file that an argument names, read into memory.
+// A file that an argument names, read into memory or written.
 use crate::say;
 use records::MOST_LONGEST;
 ghost use Prim.Native.Nat.{_≤_};
@@ -22,7 +22,7 @@ pub fn read(argument: usize, input: &mut [u8]) -> Contents
     let n = os::arg(argument, &mut path);
     let fd = os::open_read(&path[..n]);
     if fd < 0 {
-        cannot_read(&path[..n]);
+        cannot(b"read ", &path[..n]);
         return Contents {
             read: false,
             len: 0,
@@ -31,7 +31,7 @@ pub fn read(argument: usize, input: &mut [u8]) -> Contents
     let c = fill(fd, input);
     libc::close(fd);
     if !c.read {
-        cannot_read(&path[..n]);
+        cannot(b"read ", &path[..n]);
     }
     c
 }
@@ -49,9 +49,27 @@ fn fill(fd: i32, input: &mut [u8]) -> Contents
     }
 }
 
-// Says that the file cannot be read.
-fn cannot_read(path: &[u8]) {
-    say::text(b"cannot read ");
+// Writes the file that an argument names, made or emptied first, and answers whether it was written,
+// or says that it cannot be.
+pub fn write(argument: usize, bytes: &[u8]) -> bool {
+    let mut path = io::buffer();
+    let n = os::arg(argument, &mut path);
+    let fd = os::open_overwrite(&path[..n]);
+    if fd >= 0 {
+        let written = io::write_all(fd, bytes);
+        let closed = libc::close(fd);
+        if written && closed == 0 {
+            return true;
+        }
+    }
+    cannot(b"write ", &path[..n]);
+    false
+}
+
+// Says what cannot be done with the file.
+fn cannot(deed: &[u8], path: &[u8]) {
+    say::text(b"cannot ");
+    say::text(deed);
     say::text(path);
     say::text(b"\n");
 }

@@ -7,9 +7,13 @@ mod name;
 mod order;
 mod provided;
 mod refusal;
+mod renaming;
 mod say;
+mod task;
 mod usage;
 mod waits;
+
+use renaming::Call;
 
 // Runs the command that the first argument names.
 fn main() {
@@ -21,6 +25,12 @@ fn main() {
         check::run();
     } else if names::bytes::same(&command[..n], b"order") {
         order::run();
+    } else if names::bytes::same(&command[..n], b"whole") {
+        renaming::run(Call::Whole);
+    } else if names::bytes::same(&command[..n], b"children") {
+        renaming::run(Call::Children);
+    } else if names::bytes::same(&command[..n], b"helper") {
+        renaming::run(Call::Helper);
     } else {
         usage::print();
     }

@@ -12,18 +12,14 @@ pub fn run() {
         usage::print();
         return;
     }
-    let mut digits = io::buffer();
-    let n = os::arg(3, &mut digits);
-    match counter::parse(&digits[..n]) {
-        Counter::Nothing => usage::print(),
-        Counter::Is(c) => {
-            let mut name = io::buffer();
-            let n = os::arg(2, &mut name);
-            if os::errno() == 0 {
-                make(&name[..n], c);
-            } else {
-                make(&name, c);
-            }
+    let n = counter::argument(3);
+    if let Counter::Is(c) = n {
+        let mut name = io::buffer();
+        let n = os::arg(2, &mut name);
+        if os::errno() == 0 {
+            make(&name[..n], c);
+        } else {
+            make(&name, c);
         }
     }
 }

@@ -1,11 +1,12 @@
 // `rename order FILE F`: the call Order.
 use crate::counter;
 use crate::counter::Counter;
-use crate::file;
-use crate::file::MOST_READ;
 use crate::provided;
 use crate::refusal;
 use crate::say;
+use crate::task;
+use crate::task::Asked;
+use crate::task::WORK;
 use crate::usage;
 use crate::waits;
 use ordering::BINDING_LIMIT;
@@ -13,9 +14,7 @@ use ordering::NEED_LIMIT;
 use ordering::assign::find_names;
 use ordering::call::order_call;
 use records::COUNT_LIMIT;
-use records::MOST_LONGEST;
 use records::Opening;
-use records::WORK_FACTOR;
 use records::Wanted;
 use records::bodies::let_view;
 use records::input::open_input;
@@ -27,37 +26,20 @@ ghost use Rattle.records.specs.Records.{Loc, Kind, Body, Bindings};
 ghost use Rattle.ordering.specs.Assign.{Let};
 ghost use Rattle.ordering.specs.Provisions.{Given};
 
-// The length of work memory that is enough for every F.
-const WORK: usize = WORK_FACTOR * MOST_LONGEST;
-
 // Reads F, and goes on to the file.
 pub fn run() {
     if os::arg_count() != 4 {
         usage::print();
         return;
     }
-    let mut digits = io::buffer();
-    let n = os::arg(3, &mut digits);
-    match counter::parse(&digits[..n]) {
-        Counter::Nothing => usage::print(),
-        Counter::Is(f) => read(f as usize),
-    }
-}
-
-// Reads FILE and orders its assign. Work memory is lent as an array, so that no proof has to count
-// its bytes.
-fn read(f: usize) {
-    let mut input = [0u8; MOST_READ];
-    let c = file::read(2, &mut input);
-    let len = c.len;
-    if c.read {
-        let mut work = [0u8; WORK];
-        order(&input[..len], f, &mut work);
+    let n = counter::argument(3);
+    if let Counter::Is(f) = n {
+        task::read(Asked::Order, f as usize, 0);
     }
 }
 
 // Orders an assign, and prints what the call answers.
-fn order(s: &[u8], f: usize, work: &mut [u8; WORK]) {
+pub fn order(s: &[u8], f: usize, work: &mut [u8; WORK]) {
     let mut row = [0u8; BINDING_LIMIT];
     let a = order_call(f, work, 0, s, &mut row);
     let len = a.len;

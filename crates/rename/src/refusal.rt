@@ -2,7 +2,7 @@
 use crate::say;
 use names::Refusal;
 
-// The line of a refusal of the call Name.
+// The line of a refusal without a place. Number 1 is of the counter.
 pub fn print(number: u32) {
     start(number);
     if number == 1 {
@@ -14,7 +14,7 @@ pub fn print(number: u32) {
     say::text(b"\n");
 }
 
-// The line of a refusal in reading a record, with its place.
+// The line of a refusal in reading a record, with its place. Number 1 is of F, and has none.
 pub fn print_at(refusal: Refusal) {
     let number = refusal.number;
     start(number);
@@ -25,9 +25,9 @@ pub fn print_at(refusal: Refusal) {
         say::number(records::MOST_LONGEST as u64);
     } else {
         meaning(number);
+        say::text(b" at offset ");
+        say::number(refusal.place.start);
     }
-    say::text(b" at offset ");
-    say::number(refusal.place.start);
     say::text(b"\n");
 }
 
@@ -37,6 +37,18 @@ pub fn print_deadlock(refusal: Refusal) {
     say::text(b"the bindings of the assign have no order, at location ");
     say::number(refusal.place.start);
     say::text(b"\n");
+}
+
+// The line of a refusal of a call that renames. At 1 the counter is to blame if it is too large.
+pub fn print_renaming(refusal: Refusal, counter: u64) {
+    let number = refusal.number;
+    if number == 5 {
+        print_deadlock(refusal);
+    } else if number > 5 || number == 1 && counter > names::MAX_COUNTER {
+        print(number);
+    } else {
+        print_at(refusal);
+    }
 }
 
 // The refusal's number.
@@ -55,10 +67,12 @@ fn meaning(number: u32) {
     } else if number == 4 {
         say::text(b"a binding body of an assign has a BM in it");
     } else if number == 6 {
-        say::text(b"the made name would be longer than ");
+        say::text(b"a made name would be longer than ");
         say::number(names::NAME_LIMIT as u64);
         say::text(b" bytes");
+    } else if number == 7 {
+        say::text(b"a record would be longer than F");
     } else {
-        say::text(b"the result does not fit");
+        say::text(b"the result buffer is too short");
     }
 }

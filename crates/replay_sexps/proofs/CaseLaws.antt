@@ -55,9 +55,9 @@ pub record Bare (input : Bytes) (a b : ℕ) : Type 0 where
 pub bare : {input : Bytes} {v : FormView} → SeesForm input v → v .count ≡ 0 → (f : Form) → FormIn input f → Bare input (v .args) (v .first)
 unfolding FormFields helpers-count helpers-bytes
 bare {input} {v} see z (CF l r a []ʰ b) h =
-    let w = see l r a []ʰ b (h .valid) (h .there) in
+    let w = see .sees l r a []ʰ b (h .valid) (h .there) in
     record { args = a; fields = h .valid .0 .2 .0; deep = h .valid .0 .2 .1; there = w .args; body = b; body-fields = h .valid .0 .5; body-there = at-place (v .first) (omega arith) (first-of (rest-of (w .rest))) }
-bare {input} {v} see z (CF l r a (x ∷ʰ hs) b) h = let w = see l r a (x ∷ʰ hs) b (h .valid) (h .there) in absurd (omega (arith, w .count))
+bare {input} {v} see z (CF l r a (x ∷ʰ hs) b) h = let w = see .sees l r a (x ∷ʰ hs) b (h .valid) (h .there) in absurd (omega (arith, w .count))
 
 -- a body that is a BV
 pub two : {input : Bytes} {a b q k : ℕ} → Bare input a b → k ≡ mark-index (take 2 (drop 0 (part input b (length input - b)))) body-marks → k ≡ 2 → SeesValue (part input b (length input - b)) q

@@ -11,6 +11,7 @@ pub enum Outcome {
     Agrees,
     Differs,
     CutOff,
+    Broken,
     Ended,
 }
 
@@ -53,6 +54,7 @@ pub fn goes_on(outcome: Outcome, done: u64, kind: &[u8]) -> bool {
         Outcome::Ended => all_agree(done, kind),
         Outcome::Differs => fault(done, kind, b"does not\n"),
         Outcome::CutOff => fault(done, kind, b"is cut off\n"),
+        Outcome::Broken => fault(done, kind, b"is broken\n"),
     }
     false
 }

@@ -431,7 +431,7 @@ module _ (F : ℕ) where
           clear = (g .0 .clear, h .clear);
         })
 
-  keeps-form-walk : (fuel : ℕ) → KeepsForms (form-walk F fuel)
+  pub keeps-form-walk : (fuel : ℕ) → KeepsForms (form-walk F fuel)
   unfolding form-walk form-rules
   keeps-form-walk zero = record {
     args-helperform = λ z k x p. gives-refuse out-of-fuel;
@@ -471,7 +471,7 @@ module _ (F work : ℕ) where
       true-of _ (T-both t (leb c′ max-counter) (T-left t (leb c max-counter) (T-of e)) (le→leb c′ max-counter h))
 
   -- of an input that is opened
-  opened-limits : {A : Type 0} (reader : Reader A) (c : ℕ) (input : Bytes) (a : A) → open-input reader F work c input ≡ opened a → limits F work c ≡ true
+  pub opened-limits : {A : Type 0} (reader : Reader A) (c : ℕ) (input : Bytes) (a : A) → open-input reader F work c input ≡ opened a → limits F work c ≡ true
   unfolding open-input
   opened-limits {A} reader c input a h = go (limits F work c) refl h
     where

@@ -26,10 +26,11 @@ use Rattle.walk.specs.Walking.{rule, AnyBody, BodyReady, Walks, Leads, l
 use Rattle.walk.specs.declared.Piece.{Piece}
 use Rattle.walk.specs.declared.Piece.the-variants.{Done as Took, Refused as Stopped}
 use Rattle.walk.specs.declared.Task.{Task}
+use Rattle.walk.proofs.DoneLaws.{child-gives, child-over, child-refuses, further-gives, further-over, further-refuses}
 use Rattle.walk.proofs.MapLaws.{no-map, map-of-part, map-after}
 use Rattle.walk.proofs.OnParts.{from, rejoin}
 use Rattle.walk.proofs.Results.{rule-draws, rule-short, rule-fine, some-level, least-room}
-use Rattle.walk.proofs.RunLaws.{neutral-rule, then-then, child-gives, child-over, child-refuses, further-gives, further-over, further-refuses}
+use Rattle.walk.proofs.RunLaws.{neutral-rule, then-then}
 use Rattle.walk.proofs.Sizes.{dbl-mono}
 use Rattle.walk.proofs.Unique.{unique-fine, same-map, tells-of}
 use Rattle.walk.proofs.Wholes.{from-length, cut-frame, cut-gives, whole-frame, whole-gives, took-is}

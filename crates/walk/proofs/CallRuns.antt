@@ -12,7 +12,8 @@ use Rattle.walk.specs.Bodyforms.{each-body, call-tail, in-elements, rena
 use Rattle.walk.specs.CallWalks.{every, backs}
 use Rattle.walk.specs.Steps.{M, _>>=_, ret, over-long, step, child, further, body-size}
 use Rattle.walk.specs.Walking.{rule}
-use Rattle.walk.proofs.RunLaws.{Neutral, then-then, ret-then, neutral-rule, neutral-ret, child-gives, child-over, child-refuses, further-gives, own-step, in-step, then-same}
+use Rattle.walk.proofs.DoneLaws.{child-gives, child-over, child-refuses, further-gives}
+use Rattle.walk.proofs.RunLaws.{Neutral, then-then, ret-then, neutral-rule, neutral-ret, own-step, in-step, then-same}
 
 -- what stays of an element: what it was, or what was made of it
 abbrev pub stays : Bool → Body → Body → Body

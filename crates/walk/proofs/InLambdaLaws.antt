@@ -27,11 +27,12 @@ use Rattle.walk.specs.Room.{room}
 use Rattle.walk.specs.Steps.{step, body-size}
 use Rattle.walk.specs.Walking.{from-sum, rule, AnyBody, IsLambda, Fine, BodyReady, Walks}
 use Rattle.walk.specs.declared.Task.{Task}
+use Rattle.walk.proofs.DoneLaws.{child-gives, child-refuses}
 use Rattle.walk.proofs.LambdaParts.{lambda-size, PartsAt, parts-at, FineParts, fine-parts, lambda-draws}
 use Rattle.walk.proofs.MapLaws.{map-after}
 use Rattle.walk.proofs.OnParts.{from, rejoin}
 use Rattle.walk.proofs.Results.{rule-draws, rule-short, room-down}
-use Rattle.walk.proofs.RunLaws.{neutral-rule, child-gives, child-refuses, step-refuses, in-step, step-same}
+use Rattle.walk.proofs.RunLaws.{neutral-rule, step-refuses, in-step, step-same}
 use Rattle.walk.proofs.Unique.{tells-of, unique-fine}
 use Rattle.walk.proofs.Wholes.{from-length, whole-frame, whole-gives, map-from}
 

@@ -21,7 +21,7 @@ use Rattle.records.specs.Valid.{ValidSexp, BodyFields, NoMod, lambda-depth}
 use Rattle.records.specs.Views.{lambda-head}
 use Rattle.records.specs.declared.Step.{Step}
 use Rattle.records.specs.declared.Step.the-variants.{Done, Refused}
-use Rattle.records.proofs.Answers.{made, unmade}
+use Rattle.records.proofs.Answers.{unmade}
 use Rattle.walk.specs.Arena.{MapAt, Asks, Held, Substitutes, fitting, outcome}
 use Rattle.walk.specs.Bodyforms.{walk, args-then-in}
 use Rattle.walk.specs.Draws.{sexp-atoms, atoms, dbl, counter-most}

@@ -30,11 +30,12 @@ use Rattle.walk.specs.Walking.{rule, AnyBody, IsBinder, BodyReady, Walks
 use Rattle.walk.specs.declared.Piece.{Piece}
 use Rattle.walk.specs.declared.Piece.the-variants.{Done as Took, Refused as Stopped}
 use Rattle.walk.specs.declared.Task.{Task}
+use Rattle.walk.proofs.DoneLaws.{child-gives, child-over, child-refuses}
 use Rattle.walk.proofs.LetLaws.{Let, Seen, seen, let-head, let-made, own-same, own-many, own-valid, heads-short, heads-are, half-frame, half-head, half-out, half-last}
 use Rattle.walk.proofs.LetRuns.{each-counter}
 use Rattle.walk.proofs.OnParts.{from, rejoin}
 use Rattle.walk.proofs.Results.{room-down}
-use Rattle.walk.proofs.RunLaws.{in-step, child-gives, child-over, child-refuses, neutral-rule}
+use Rattle.walk.proofs.RunLaws.{in-step, neutral-rule}
 use Rattle.walk.proofs.Unique.{tells-of, unique-fine}
 use Rattle.walk.proofs.Wholes.{from-length, whole-frame, whole-gives, map-from, Led, took, halted, finished-gives, refused-gives}
 

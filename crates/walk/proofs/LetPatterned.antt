@@ -11,7 +11,6 @@ use Rattle.names.specs.declared.Refusal.{Refusal}
 use Rattle.names.proofs.Frames.{same-wider, same-then, at-below, at-above, movable-up}
 use Rattle.names.proofs.Parts.{into, at-part}
 use Rattle.names.proofs.Places.{at-place, at-join}
-use Rattle.records.specs.Answer.{gives}
 use Rattle.records.specs.Depth.{binding-depth, list-depth}
 use Rattle.records.specs.Lists.{joined}
 use Rattle.records.specs.Records.{Parallel, Pattern, pattern-field, Body, BL, body-bytes, Binding, BB, binding-bytes, to-bindings, list-of}

@@ -16,10 +16,11 @@ use Rattle.walk.specs.LetWalks.{head-bytes, binding-body}
 use Rattle.walk.specs.Scopes.{with-pattern}
 use Rattle.walk.specs.Steps.{M, _>>=_, ret, child, body-size, over-long}
 use Rattle.walk.specs.Walking.{rule}
+use Rattle.walk.proofs.DoneLaws.{child-gives, child-over, child-refuses}
 use Rattle.walk.proofs.LetHeads.{binding-is}
 use Rattle.walk.proofs.Limits.{runs-each-binding-body}
 use Rattle.walk.proofs.Results.{led-counter, rule-bounded}
-use Rattle.walk.proofs.RunLaws.{ret-then, then-then, child-gives, child-over, child-refuses, neutral-rule, then-same}
+use Rattle.walk.proofs.RunLaws.{ret-then, then-then, neutral-rule, then-same}
 
 -- a binding with this pattern and this body
 unfoldable pub remade : Binding → Pattern → Body → Binding

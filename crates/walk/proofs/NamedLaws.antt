@@ -33,23 +33,20 @@ use Rattle.walk.specs.declared.Invented.the-variants.{Drawn, Refused as 
 use Rattle.walk.specs.declared.Made.{Made}
 use Rattle.walk.specs.declared.Made.the-variants.{Refused as Not}
 use Rattle.walk.specs.declared.Task.{Task}
+use Rattle.walk.proofs.DoneLaws.{then-gives, then-refuses, child-gives, child-over, child-refuses}
 use Rattle.walk.proofs.MakesLaws.{makes-from}
 use Rattle.walk.proofs.MapLaws.{no-map, map-after}
 use Rattle.walk.proofs.Results.{rule-short, rule-draws, rule-fine, counter-least, invent-draws}
-use Rattle.walk.proofs.RunLaws.{then-then, then-gives, then-refuses, neutral-rule, neutral-invent, child-gives, child-over, child-refuses}
+use Rattle.walk.proofs.RunLaws.{then-then, neutral-rule, neutral-invent}
 use Rattle.walk.proofs.Sizes.{dbl-add, dbl-mono, dbl-least, dbl-twice}
-use Rattle.walk.proofs.Unique.{Unique, unique-sexp, unique-body, tells-of}
+use Rattle.walk.proofs.Unique.{Unique, same-pair, unique-first, unique-sexp, unique-body, tells-of}
 use Rattle.walk.proofs.Wholes.{cut-frame, cut-gives}
 
 -- one pattern with its body at most stands at the start
 unique-parts : {F d : ℕ} → Unique parts-bytes (FineParts F d)
 unique-parts xs (a, b) (a₁, b₁) p q x y =
-    let e : a ≡ a₁ = unique-sexp xs a a₁ (p .valid) (q .valid) (at-left (sexp-bytes a) (body-bytes b) x) (at-left (sexp-bytes a₁) (body-bytes b₁) y) in
-    let l = ap (λ (z : Sexp). length (sexp-bytes z)) e in
-    let x₁ = at-right (sexp-bytes a) (body-bytes b) x in
-    let y₁ = at-place (0 + length (sexp-bytes a)) (omega arith) (at-right (sexp-bytes a₁) (body-bytes b₁) y) in
-    let f : b ≡ b₁ = unique-body _ b b₁ (p .body .valid) (q .body .valid) (into x₁) (into y₁) in
-    cc
+    let s = unique-first sexp-bytes unique-sexp a a₁ (body-bytes b) (body-bytes b₁) (p .valid) (q .valid) x y in
+    same-pair (s .0) (unique-body _ b b₁ (p .body .valid) (q .body .valid) (into (s .1)) (into (s .2)))
 
 -- the body of a pattern whose names are drawn
 module _ {mem : Bytes} {body sum : ℕ} {t : Task} (p : NamedReady mem body sum t) where

@@ -28,11 +28,12 @@ use Rattle.walk.specs.declared.Drawn.the-variants.{Done, Refused as Stop
 use Rattle.walk.specs.declared.Growth.{Growth}
 use Rattle.walk.specs.declared.Invented.{Invented}
 use Rattle.walk.specs.declared.Invented.the-variants.{Drawn, Refused}
+use Rattle.walk.proofs.DoneLaws.{then-gives, then-refuses}
 use Rattle.walk.proofs.Fits.{given, refused-long}
 use Rattle.walk.proofs.Kept.{valid-cons}
 use Rattle.walk.proofs.MapLaws.{no-map, map-after}
 use Rattle.walk.proofs.Results.{limited-named}
-use Rattle.walk.proofs.RunLaws.{then-gives, then-refuses, neutral-invent}
+use Rattle.walk.proofs.RunLaws.{neutral-invent}
 use Rattle.walk.proofs.StepLaws.{substitute-gives, substitute-over}
 use Rattle.walk.proofs.Unique.{unique-sexp}
 

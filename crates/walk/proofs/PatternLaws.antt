@@ -32,12 +32,13 @@ use Rattle.walk.specs.declared.Drawn.the-variants.{Done, Refused as Stop
 use Rattle.walk.specs.declared.Growth.{Growth}
 use Rattle.walk.specs.declared.Invented.{Invented}
 use Rattle.walk.specs.declared.Invented.the-variants.{Drawn, Refused}
+use Rattle.walk.proofs.DoneLaws.{then-gives, then-refuses}
 use Rattle.walk.proofs.MapLaws.{no-map, map-after}
 use Rattle.walk.proofs.NewNameLaws.{args-then, args-go-on, args-valid, ArgsGot, args-got, args-halted}
 use Rattle.walk.proofs.OnParts.{from, rejoin}
 use Rattle.walk.proofs.PartMaps.{map-length, map-stands, map-back}
 use Rattle.walk.proofs.Results.{invent-draws}
-use Rattle.walk.proofs.RunLaws.{then-then, then-gives, then-refuses, ret-then, neutral-draw, then-same}
+use Rattle.walk.proofs.RunLaws.{then-then, ret-then, neutral-draw, then-same}
 use Rattle.walk.proofs.Unique.{unique-pattern}
 use Rattle.walk.proofs.Wholes.{from-length, whole-frame, whole-at}
 

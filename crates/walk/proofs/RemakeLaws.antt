@@ -28,11 +28,12 @@ use Rattle.walk.specs.Walking.{rule, AnyBody, BodyReady, Walks}
 use Rattle.walk.specs.declared.Made.{Made}
 use Rattle.walk.specs.declared.Made.the-variants.{Done as Has, Refused as Not}
 use Rattle.walk.specs.declared.Task.{Task}
+use Rattle.walk.proofs.DoneLaws.{further-gives, further-over, further-refuses}
 use Rattle.walk.proofs.Fits.{Given, given, refused-long}
 use Rattle.walk.proofs.MapLaws.{map-after}
 use Rattle.walk.proofs.OnParts.{from, rejoin}
 use Rattle.walk.proofs.Results.{some-level, least-room, rule-short}
-use Rattle.walk.proofs.RunLaws.{then-then, ret-then, neutral-rule, further-gives, further-over, further-refuses}
+use Rattle.walk.proofs.RunLaws.{then-then, ret-then, neutral-rule}
 use Rattle.walk.proofs.StepLaws.{substitute-gives, substitute-over}
 use Rattle.walk.proofs.Unique.{unique-sexp, unique-body, same-map}
 use Rattle.walk.proofs.Wholes.{from-length, whole-frame, whole-gives, map-from}

@@ -29,7 +29,7 @@ use Rattle.walk.proofs.All.{all-none, all-cons}
 use Rattle.walk.proofs.Kept.{BodyKept, Named}
 use Rattle.walk.proofs.Limits.{Fine as Within, runs-walk, Runs, runs-invent-new-names-sexp, Bounded}
 use Rattle.walk.proofs.RoomLaws.{room-level}
-use Rattle.walk.proofs.RunLaws.{outcome-after, outcome-log-assign, onward, bind-onward}
+use Rattle.walk.proofs.RunLaws.{outcome-after, ended, outcome-log-assign, onward, bind-onward}
 use Rattle.walk.proofs.Sizes.{positive, dbl-twice}
 
 -- the new names of a map in memory are within their limit
@@ -38,16 +38,13 @@ unfolding Limited
 limited-named [] l = all-none
 limited-named (e ∷ m) l = all-cons (l .1) (limited-named m (l .2))
 
-of-outcome : {A : Type 0} (z : Zone) (P : A → Type 0) (o : Out A) {u : A} {c : ℕ} → Of z P o → outcome o ≡ gives u c → P u
-unfolding outcome
-of-outcome z P (done log a c x) {u} p e = let q : a ≡ u = cc in subst P q (p .1)
-of-outcome z P (refused log r) q e = let w : _≡_ {A = ℕ} 0 1 = cc in absurd (omega arith)
+-- a run that keeps what it is given: what it gives
+pub of-outcome : {A : Type 0} (z : Zone) (P : A → Type 0) (o : Out A) {u : A} {c : ℕ} → Of z P o → outcome o ≡ gives u c → P u
+of-outcome z P o p e = let f = subst (Of z P) (ended o e .1 .1) p in f .1
 
 -- a run within its bounds: what it gives, and its counter
-within-outcome : {A : Type 0} (n : ℕ) (P : A → Type 0) (k : ℕ) (o : Out A) {u : A} {c : ℕ} → Within n P k o → outcome o ≡ gives u c → P u × (c ≤ k + n)
-unfolding outcome
-within-outcome n P k (done log a d x) {u} {c} p e = let q : a ≡ u = cc in let r : d ≡ c = cc in (subst P q (p .2), omega (arith, p .1))
-within-outcome n P k (refused log r) q e = let z : _≡_ {A = ℕ} 0 1 = cc in absurd (omega arith)
+pub within-outcome : {A : Type 0} (n : ℕ) (P : A → Type 0) (k : ℕ) (o : Out A) {u : A} {c : ℕ} → Within n P k o → outcome o ≡ gives u c → P u × (c ≤ k + n)
+within-outcome n P k o p e = let f = subst (Within n P k) (ended o e .1 .1) p in (f .2, f .1)
 
 -- a run that leads on: its counter is where its bound lets it be
 module _ {A : Type 0} {n : ℕ} {P : A → Type 0} {run : M A} (s : Runs n P run) (c x c′ x′ : ℕ) (u : A) (h : (k : A → M Body) → outcome ((run >>= k) c x) ≡ outcome (k u c′ x′)) where

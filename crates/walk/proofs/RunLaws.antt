@@ -1,5 +1,4 @@
--- What runs one after the other give, from any sum: a run that leaves the sum as it was, a child's result, one that is taken further, a step, and the rules of
--- the walk. Assumes nothing.
+-- What runs one after the other give, from any sum: a run that leaves the sum as it was, a step, and the rules of the walk. Assumes nothing.
 use mathlib.Core.Path.{_≡_, refl, sym, ap, _∙_}
 use mathlib.Core.Bool.{Bool, true, false}
 use mathlib.Core.List.{List, [], _∷_, _++_}
@@ -17,7 +16,7 @@ use Rattle.records.specs.Records.{Sexp, SN, SC, SI, SQ, SA, Parallel, Sequentia
 use Rattle.walk.specs.Arena.{outcome}
 use Rattle.walk.specs.Bodyforms.{body-rules, walk, log-assign, logged, visit, rename-args-bodyform, rename-in-bodyform}
 use Rattle.walk.specs.Invent.{name-too-long, draw, invent-new-names-sexp, rename-in-cons-step}
-use Rattle.walk.specs.Steps.{M, Out, Event, Visit, made, done, refused, over-long, out-of-fuel, _>>=_, _>>_, after, ret, refuse, add-to-sum, take-from-sum, fits, step, child, further, sexp-size, body-size}
+use Rattle.walk.specs.Steps.{M, Out, Event, Visit, made, done, refused, DoneWith, RefusedWith, over-long, out-of-fuel, _>>=_, after, ret, refuse, fits, step, sexp-size, body-size}
 use Rattle.walk.specs.Walking.{rule}
 
 -- an outcome with another sum
@@ -29,6 +28,7 @@ with-sum x (refused log r) = refused log r
 pub record Neutral {A : Type 0} (m : M A) : Type 0 where
   pub same-run : (c x : ℕ) → m c x ≡ with-sum x (m c 0)
 
+-- what happened before does not change what is given
 pub outcome-after : {A : Type 0} (log : List Event) (o : Out A) → outcome (after log o) ≡ outcome o
 unfolding outcome after
 outcome-after log (done l a c x) = refl
@@ -39,14 +39,20 @@ unfolding with-sum after
 after-with-sum x log (done l a c y) = refl
 after-with-sum x log (refused l r) = refl
 
--- what a run gives does not depend on the sum
-pub any-sum : {A : Type 0} {m : M A} → Neutral m → (c x : ℕ) → outcome (m c x) ≡ outcome (m c 0)
-unfolding with-sum outcome
-any-sum {A} {m} n c x = ap outcome (n .same-run c x) ∙ go (m c 0)
-  where
-    go : (o : Out A) → outcome (with-sum x o) ≡ outcome o
-    go (done l a c y) = refl
-    go (refused l r) = refl
+-- a run that gives a value ended with it, at some sum
+pub ended : {A : Type 0} (o : Out A) {a : A} {c : ℕ} → outcome o ≡ gives a c → (x : ℕ) × DoneWith o a c x
+unfolding outcome
+ended (done log b d y) {a} {c} e =
+    let p : b ≡ a = cc in
+    let q : d ≡ c = cc in
+    (y, (log, cc))
+ended (refused log r) e = let z : _≡_ {A = ℕ} 0 1 = cc in absurd (omega arith)
+
+-- and one that gives a refusal ended with that
+pub ended-stops : {A : Type 0} (o : Out A) {r : Refusal} → outcome o ≡ refuses r → RefusedWith o r
+unfolding outcome
+ended-stops (done log a c x) e = let z : _≡_ {A = ℕ} 0 1 = cc in absurd (omega arith)
+ended-stops (refused log q) {r} e = let p : q ≡ r = cc in (log, ap (refused log) p)
 
 -- what a run does next
 module _ {A B : Type 0} (k : A → M B) where
@@ -62,34 +68,10 @@ module _ {A B : Type 0} (k : A → M B) where
       go (done log a c x) = refl
       go (refused log r) = refl
 
-  onward-gives : (x : ℕ) (o : Out A) {a : A} {c : ℕ} → outcome o ≡ gives a c → outcome (onward (with-sum x o)) ≡ outcome (k a c x)
-  unfolding outcome onward with-sum
-  onward-gives x (done log b d y) {a} {c} e =
-      let p : b ≡ a = cc in
-      let q : d ≡ c = cc in
-      outcome-after log (k b d x) ∙ ap (λ (z : A). outcome (k z d x)) p ∙ ap (λ (z : ℕ). outcome (k a z x)) q
-  onward-gives x (refused log r) e = let z : _≡_ {A = ℕ} 0 1 = cc in absurd (omega arith)
-
-  onward-refuses : (x : ℕ) (o : Out A) {r : Refusal} → outcome o ≡ refuses r → outcome (onward (with-sum x o)) ≡ refuses r
-  unfolding outcome onward with-sum
-  onward-refuses x (done log b d y) e = let z : _≡_ {A = ℕ} 0 1 = cc in absurd (omega arith)
-  onward-refuses x (refused log q) {r} e = let p : q ≡ r = cc in ap refuses p
-
-  module _ {m : M A} (n : Neutral m) (c x : ℕ) where
-    pub then-gives : {a : A} {c′ : ℕ} → outcome (m c 0) ≡ gives a c′ → outcome ((m >>= k) c x) ≡ outcome (k a c′ x)
-    then-gives e = ap outcome (bind-onward m c x ∙ ap onward (n .same-run c x)) ∙ onward-gives x (m c 0) e
-
-    pub then-refuses : {r : Refusal} → outcome (m c 0) ≡ refuses r → outcome ((m >>= k) c x) ≡ refuses r
-    then-refuses e = ap outcome (bind-onward m c x ∙ ap onward (n .same-run c x)) ∙ onward-refuses x (m c 0) e
-
   -- a value at once
   pub ret-then : (a : A) (c x : ℕ) → outcome ((ret a >>= k) c x) ≡ outcome (k a c x)
   unfolding ret onward
   ret-then a c x = ap outcome (bind-onward (ret a) c x) ∙ outcome-after [] (k a c x)
-
-  pub refuse-then : (r : Refusal) (c x : ℕ) → outcome ((refuse r >>= k) c x) ≡ refuses r
-  unfolding refuse onward outcome
-  refuse-then r c x = ap outcome (bind-onward (refuse r) c x)
 
 -- one run after another, and a third
 module _ {A B C : Type 0} (m : M A) (f : A → M B) (k : B → M C) where
@@ -118,79 +100,23 @@ then-same {A} {B} m f g h c x = ap outcome (bind-onward f m c x) ∙ go (m c x) 
 
 -- nothing after a run
 pub then-ret : {A : Type 0} (m : M A) (c x : ℕ) → outcome ((m >>= ret) c x) ≡ outcome (m c x)
-unfolding ret onward add-to-sum outcome take-from-sum child _>>_ further fits with-sum step
+unfolding ret onward outcome
 then-ret {A} m c x = ap outcome (bind-onward ret m c x) ∙ go (m c x)
   where
     go : (o : Out A) → outcome (onward ret o) ≡ outcome o
     go (done log a c x) = outcome-after log (done [] a c x)
     go (refused log r) = refl
 
+-- what is given, by a function of its value
+abbrev pub mapped : {A B : Type 0} → (A → B) → Outcome A → Outcome B
+mapped g (gives a c) = gives (g a) c
+mapped g (refuses r) = refuses r
+
+mapped-same : {A : Type 0} (o : Outcome A) → mapped (λ a. a) o ≡ o
+mapped-same (gives a c) = refl
+mapped-same (refuses r) = refl
+
 module _ (F : ℕ) where
-  module _ {B : Type 0} (k : Unit {0} → M B) (n : ℕ) (c x : ℕ) where
-    added : x + n ≤ F → outcome ((add-to-sum F n >>= k) c x) ≡ outcome (k tt c (x + n))
-    unfolding add-to-sum onward
-    added le =
-        let e : add-to-sum F n c x ≡ done [] tt c (x + n) = rw (le-leb _ _ le, add-to-sum) in
-        ap outcome (bind-onward k (add-to-sum F n) c x) ∙ ap (λ (o : Out (Unit {0})). outcome (onward k o)) e ∙ outcome-after [] (k tt c (x + n))
-
-    add-over : F < x + n → outcome ((add-to-sum F n >>= k) c x) ≡ refuses over-long
-    unfolding add-to-sum onward outcome
-    add-over lt =
-        let e : add-to-sum F n c x ≡ refused [] over-long = rw (lt-leb _ _ lt, add-to-sum) in
-        ap outcome (bind-onward k (add-to-sum F n) c x) ∙ ap (λ (o : Out (Unit {0})). outcome (onward k o)) e
-
-    taken : outcome ((take-from-sum F n >>= k) c x) ≡ outcome (k tt c (x - n))
-    unfolding take-from-sum onward
-    taken = ap outcome (bind-onward k (take-from-sum F n) c x) ∙ outcome-after [] (k tt c (x - n))
-
-  -- a child's result comes back
-  module _ {A B : Type 0} (size : A → ℕ) (k : A → M B) where
-    counted : (a : A) (c y : ℕ) → outcome (((add-to-sum F (size a) >> ret a) >>= k) c y) ≡ outcome ((add-to-sum F (size a) >>= λ u. ret a >>= k) c y)
-    unfolding _>>_
-    counted a c y = then-then (add-to-sum F (size a)) (λ u. ret a) k c y
-
-  module _ {A B : Type 0} (size : A → ℕ) (k : A → M B) {m : M A} (n : Neutral m) (c x : ℕ) where
-    opened-child : outcome ((child F size m >>= k) c x) ≡ outcome ((m >>= λ a. (add-to-sum F (size a) >> ret a) >>= k) c x)
-    unfolding child
-    opened-child = then-then m (λ a. add-to-sum F (size a) >> ret a) k c x
-
-    pub child-gives : {a : A} {c′ : ℕ} → outcome (m c 0) ≡ gives a c′ → x + size a ≤ F → outcome ((child F size m >>= k) c x) ≡ outcome (k a c′ (x + size a))
-    child-gives {a} {c′} e le =
-        opened-child ∙ then-gives (λ a. (add-to-sum F (size a) >> ret a) >>= k) n c x e ∙ counted size k a c′ x ∙ added (λ u. ret a >>= k) (size a) c′ x le ∙ ret-then k a c′ (x + size a)
-
-    pub child-over : {a : A} {c′ : ℕ} → outcome (m c 0) ≡ gives a c′ → F < x + size a → outcome ((child F size m >>= k) c x) ≡ refuses over-long
-    child-over {a} {c′} e lt = opened-child ∙ then-gives (λ a. (add-to-sum F (size a) >> ret a) >>= k) n c x e ∙ counted size k a c′ x ∙ add-over (λ u. ret a >>= k) (size a) c′ x lt
-
-    pub child-refuses : {r : Refusal} → outcome (m c 0) ≡ refuses r → outcome ((child F size m >>= k) c x) ≡ refuses r
-    child-refuses e = opened-child ∙ then-refuses (λ a. (add-to-sum F (size a) >> ret a) >>= k) n c x e
-
-  -- another rule takes a result further
-  module _ {A B : Type 0} (size : A → ℕ) (k : A → M B) (old : A) where
-    abbrev replaced : A → M A
-    replaced a = take-from-sum F (size old) >> (add-to-sum F (size a) >> ret a)
-
-    counted-again : (a : A) (c y : ℕ) → outcome ((replaced a >>= k) c y) ≡ outcome ((add-to-sum F (size a) >>= λ u. ret a >>= k) c (y - size old))
-    unfolding _>>_
-    counted-again a c y =
-        then-then (take-from-sum F (size old)) (λ u. add-to-sum F (size a) >> ret a) k c y ∙ taken (λ u. (add-to-sum F (size a) >> ret a) >>= k) (size old) c y
-        ∙ then-then (add-to-sum F (size a)) (λ u. ret a) k c (y - size old)
-
-  module _ {A B : Type 0} (size : A → ℕ) (k : A → M B) (f : A → M A) (old : A) (n : Neutral (f old)) (c x : ℕ) where
-    opened-further : outcome ((further F size old f >>= k) c x) ≡ outcome ((f old >>= λ a. replaced size k old a >>= k) c x)
-    unfolding further
-    opened-further = then-then (f old) (replaced size k old) k c x
-
-    pub further-gives : {a : A} {c′ : ℕ} → outcome (f old c 0) ≡ gives a c′ → x - size old + size a ≤ F
-        → outcome ((further F size old f >>= k) c x) ≡ outcome (k a c′ (x - size old + size a))
-    further-gives {a} {c′} e le =
-        opened-further ∙ then-gives (λ a. replaced size k old a >>= k) n c x e ∙ counted-again size k old a c′ x ∙ added (λ u. ret a >>= k) (size a) c′ (x - size old) le ∙ ret-then k a c′ (x - size old + size a)
-
-    pub further-over : {a : A} {c′ : ℕ} → outcome (f old c 0) ≡ gives a c′ → F < x - size old + size a → outcome ((further F size old f >>= k) c x) ≡ refuses over-long
-    further-over {a} {c′} e lt = opened-further ∙ then-gives (λ a. replaced size k old a >>= k) n c x e ∙ counted-again size k old a c′ x ∙ add-over (λ u. ret a >>= k) (size a) c′ (x - size old) lt
-
-    pub further-refuses : {r : Refusal} → outcome (f old c 0) ≡ refuses r → outcome ((further F size old f >>= k) c x) ≡ refuses r
-    further-refuses e = opened-further ∙ then-refuses (λ a. replaced size k old a >>= k) n c x e
-
   -- a step
   module _ {A : Type 0} (size : A → ℕ) (m : M A) where
     fits-sum : (a : A) (c x : ℕ) → fits F size a c x ≡ with-sum x (fits F size a c 0)
@@ -212,48 +138,35 @@ module _ (F : ℕ) where
 
     module _ (c x : ℕ) where
       pub step-gives : {a : A} {c′ : ℕ} → outcome (m c 0) ≡ gives a c′ → size a ≤ F → outcome (step F size m c x) ≡ gives a c′
-      unfolding step outcome fits
-      step-gives {a} {c′} e le = go (m c 0) e
-        where
-          go : (o : Out A) → outcome o ≡ gives a c′ → outcome {A = A} (elim o as (λ _. Out A) [ done log a c′ x′ ↦ after log (fits F size a c′ x) | refused log r ↦ refused log r ]) ≡ gives a c′
-          go (done log b d y) q =
-              let p : b ≡ a = cc in
-              let w : d ≡ c′ = cc in
-              let f : fits F size a c′ x ≡ done [] a c′ x = rw (le-leb _ _ le, fits) in
-              outcome-after log (fits F size b d x) ∙ ap (λ (z : A). outcome (fits F size z d x)) p ∙ ap (λ (z : ℕ). outcome (fits F size a z x)) w ∙ ap outcome f
-          go (refused log r) q = let z : _≡_ {A = ℕ} 0 1 = cc in absurd (omega arith)
+      unfolding step outcome fits after
+      step-gives e le = rw (ended (m c 0) e .1 .1, le-leb _ _ le, step, fits)
 
       pub step-over : {a : A} {c′ : ℕ} → outcome (m c 0) ≡ gives a c′ → F < size a → outcome (step F size m c x) ≡ refuses over-long
-      unfolding step outcome fits
-      step-over {a} {c′} e lt = go (m c 0) e
-        where
-          go : (o : Out A) → outcome o ≡ gives a c′ → outcome {A = A} (elim o as (λ _. Out A) [ done log a c′ x′ ↦ after log (fits F size a c′ x) | refused log r ↦ refused log r ]) ≡ refuses over-long
-          go (done log b d y) q =
-              let p : b ≡ a = cc in
-              let w : d ≡ c′ = cc in
-              let f : fits F size a c′ x ≡ refused [] over-long = rw (lt-leb _ _ lt, fits) in
-              outcome-after log (fits F size b d x) ∙ ap (λ (z : A). outcome (fits F size z d x)) p ∙ ap (λ (z : ℕ). outcome (fits F size a z x)) w ∙ ap outcome f
-          go (refused log r) q = let z : _≡_ {A = ℕ} 0 1 = cc in absurd (omega arith)
+      unfolding step outcome fits after
+      step-over e lt = rw (ended (m c 0) e .1 .1, lt-leb _ _ lt, step, fits)
 
       pub step-refuses : {r : Refusal} → outcome (m c 0) ≡ refuses r → outcome (step F size m c x) ≡ refuses r
       unfolding step outcome
-      step-refuses {r} e = go (m c 0) e
-        where
-          go : (o : Out A) → outcome o ≡ refuses r → outcome {A = A} (elim o as (λ _. Out A) [ done log a c′ x′ ↦ after log (fits F size a c′ x) | refused log r ↦ refused log r ]) ≡ refuses r
-          go (done log b d y) q = let z : _≡_ {A = ℕ} 0 1 = cc in absurd (omega arith)
-          go (refused log s) q = let p : s ≡ r = cc in ap refuses p
+      step-refuses e = rw (ended-stops (m c 0) e .1, step)
 
-  -- steps whose runs give the same
+  -- steps whose runs give the same but for a function of the value, which keeps its size
+  module _ {A B : Type 0} (g : A → B) (size : A → ℕ) (whole : B → ℕ) (keeps : (a : A) → whole (g a) ≡ size a) (m : M B) (n : M A) (c d x y : ℕ) where
+    pub step-mapped : outcome (m c 0) ≡ mapped g (outcome (n d 0)) → outcome (step F whole m c x) ≡ mapped g (outcome (step F size n d y))
+    step-mapped e = go (outcome (n d 0)) refl
+      where
+        fit : (a : A) (k : ℕ) → outcome (n d 0) ≡ gives a k → (b : Bool) → leb (size a) F ≡ b → outcome (step F whole m c x) ≡ mapped g (outcome (step F size n d y))
+        fit a k q true l =
+            step-gives whole m c x (e ∙ ap (mapped g) q) (omega (arith, leb-true (size a) F l, keeps a)) ∙ ap (mapped g) (sym (step-gives size n d y q (leb-true _ _ l)))
+        fit a k q false l =
+            step-over whole m c x (e ∙ ap (mapped g) q) (omega (arith, leb-false (size a) F l, keeps a)) ∙ ap (mapped g) (sym (step-over size n d y q (leb-false _ _ l)))
+
+        go : (o : Outcome A) → outcome (n d 0) ≡ o → outcome (step F whole m c x) ≡ mapped g (outcome (step F size n d y))
+        go (gives a k) q = fit a k q (leb (size a) F) refl
+        go (refuses r) q = step-refuses whole m c x (e ∙ ap (mapped g) q) ∙ ap (mapped g) (sym (step-refuses size n d y q))
+
+  -- and those whose runs give the same
   pub step-same : {A : Type 0} (size : A → ℕ) (m n : M A) (c d x y : ℕ) → outcome (m c 0) ≡ outcome (n d 0) → outcome (step F size m c x) ≡ outcome (step F size n d y)
-  step-same {A} size m n c d x y e = go (outcome (n d 0)) refl
-    where
-      fit : (a : A) (k : ℕ) → outcome (n d 0) ≡ gives a k → (b : Bool) → leb (size a) F ≡ b → outcome (step F size m c x) ≡ outcome (step F size n d y)
-      fit a k q true l = step-gives size m c x (e ∙ q) (leb-true _ _ l) ∙ sym (step-gives size n d y q (leb-true _ _ l))
-      fit a k q false l = step-over size m c x (e ∙ q) (leb-false _ _ l) ∙ sym (step-over size n d y q (leb-false _ _ l))
-
-      go : (o : Outcome A) → outcome (n d 0) ≡ o → outcome (step F size m c x) ≡ outcome (step F size n d y)
-      go (gives a k) q = fit a k q (leb (size a) F) refl
-      go (refuses r) q = step-refuses size m c x (e ∙ q) ∙ sym (step-refuses size n d y q)
+  step-same size m n c d x y e = step-mapped (λ a. a) size size (λ a. refl) m n c d x y (e ∙ sym (mapped-same (outcome (n d 0)))) ∙ mapped-same (outcome (step F size n d y))
 
   pub neutral-rename-in-cons-step : (qq : Bool) (m : NameMap) (s : Sexp) → Neutral (rename-in-cons-step F qq m s)
   unfolding rename-in-cons-step
@@ -267,7 +180,7 @@ pub neutral-refuse : {A : Type 0} (r : Refusal) → Neutral {A = A} (refuse r)
 unfolding refuse with-sum
 neutral-refuse r = record { same-run = λ c x. refl }
 
-pub neutral-bind : {A B : Type 0} {m : M A} {k : A → M B} → Neutral m → ((a : A) → Neutral (k a)) → Neutral (m >>= k)
+neutral-bind : {A B : Type 0} {m : M A} {k : A → M B} → Neutral m → ((a : A) → Neutral (k a)) → Neutral (m >>= k)
 unfolding onward with-sum
 neutral-bind {A} {B} {m} {k} n h = record { same-run = λ c x. bind-onward k m c x ∙ ap (onward k) (n .same-run c x) ∙ go x (m c 0) ∙ ap (with-sum x) (sym (bind-onward k m c 0 ∙ ap (onward k) (n .same-run c 0))) }
   where

@@ -33,13 +33,14 @@ use Rattle.walk.specs.Walking.{rule, AnyBody, Fine, BodyReady, Walks, co
 use Rattle.walk.specs.declared.Task.{Task}
 use Rattle.records.proofs.Lists.{list-count}
 use Rattle.walk.proofs.Atoms.{list-parts, atoms-list-of}
+use Rattle.walk.proofs.DoneLaws.{child-over, child-gives, further-refuses, further-gives}
 use Rattle.walk.proofs.Fits.{Given, given, refused-long, done-is}
 use Rattle.walk.proofs.Kept.{let-parts, kept-desugar}
 use Rattle.walk.proofs.LetKinds.{let-deep}
 use Rattle.walk.proofs.MapLaws.{no-map}
 use Rattle.walk.proofs.OnParts.{from, rejoin}
 use Rattle.walk.proofs.Results.{some-level, room-down, rule-short, step-short, level-above, dbl-down, fine-as}
-use Rattle.walk.proofs.RunLaws.{Neutral, neutral-ret, neutral-rule, neutral-step, child-over, child-gives, further-refuses, further-gives, then-ret, step-refuses, step-gives, own-step}
+use Rattle.walk.proofs.RunLaws.{Neutral, neutral-ret, neutral-rule, neutral-step, then-ret, step-refuses, step-gives, own-step}
 use Rattle.walk.proofs.Sizes.{depth-desugar, depth-list-of, atoms-desugar}
 use Rattle.walk.proofs.Unique.{tells-of, unique-fine}
 use Rattle.walk.proofs.Wholes.{from-length, whole-frame, whole-gives}

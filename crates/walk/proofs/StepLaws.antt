@@ -1,6 +1,6 @@
 -- What runs give one after the other; a step that has its value at once gives it where it fits, and so does `rename_in_cons` as a step, beside other results too.
 -- Assumes nothing.
-use mathlib.Core.Path.{_≡_, refl, ap, _∙_}
+use mathlib.Core.Path.{_≡_, refl, _∙_}
 use mathlib.Core.Bool.{Bool, true, false}
 use mathlib.Core.List.{[]}
 use native.Mathlib.Omega.{arith}
@@ -17,8 +17,9 @@ use Rattle.walk.specs.Arena.{fitting, outcome}
 use Rattle.walk.specs.Invent.{rename-in-cons-step}
 use Rattle.walk.specs.RenameInCons.{rename-in-cons}
 use Rattle.walk.specs.Steps.{Out, done, refused, over-long, M, after, _>>=_, ret, fits, step, child, sexp-size}
+use Rattle.walk.proofs.DoneLaws.{then-stops, then-goes, outcome-stops, child-gives, child-over, child-refuses}
 use Rattle.walk.proofs.Fits.{fitting-fits, fitting-long}
-use Rattle.walk.proofs.RunLaws.{outcome-after, child-gives, child-over, child-refuses, neutral-rename-in-cons-step}
+use Rattle.walk.proofs.RunLaws.{ended, ended-stops, neutral-rename-in-cons-step}
 
 pub step-fits : {A : Type 0} (bytes : A → Bytes) (F c x : ℕ) (a : A) → outcome (step F (λ y. length (bytes y)) (ret a) c x) ≡ fitting bytes F c a
 unfolding outcome step ret fits fitting after
@@ -31,30 +32,17 @@ step-fits {A} bytes F c x a = go (leb (length (bytes a)) F)
     go false = refl
 
 -- Substitute as a step is Substitute and one test of its result
-pub substitute-fits : (F : ℕ) (qq : Bool) (m : NameMap) (s : Sexp) (c x : ℕ) → outcome (rename-in-cons-step F qq m s c x) ≡ fitting sexp-bytes F c (rename-in-cons qq m s)
+substitute-fits : (F : ℕ) (qq : Bool) (m : NameMap) (s : Sexp) (c x : ℕ) → outcome (rename-in-cons-step F qq m s c x) ≡ fitting sexp-bytes F c (rename-in-cons qq m s)
 unfolding rename-in-cons-step sexp-size
 substitute-fits F qq m s c x = step-fits sexp-bytes F c x (rename-in-cons qq m s)
 
 -- one run, and then another from where it ended
 module _ {A B : Type 0} (m : M A) (f : A → M B) (c x : ℕ) where
   pub outcome-then : {a : A} {c′ : ℕ} {o : Outcome B} → outcome (m c x) ≡ gives a c′ → ((y : ℕ) → outcome (f a c′ y) ≡ o) → outcome ((m >>= f) c x) ≡ o
-  unfolding outcome _>>=_
-  outcome-then {a} {c′} {o} e k = go (m c x) e
-    where
-      go : (r : Out A) → outcome r ≡ gives a c′ → outcome {A = B} (elim r as (λ _. Out B) [ done log a c′ x′ ↦ after log (f a c′ x′) | refused log r ↦ refused log r ]) ≡ o
-      go (done log b d y) q =
-          let is : b ≡ a = cc in
-          let at : d ≡ c′ = cc in
-          outcome-after log (f b d y) ∙ ap (λ (z : A). outcome (f z d y)) is ∙ ap (λ (z : ℕ). outcome (f a z y)) at ∙ k y
-      go (refused log r) q = let z : _≡_ {A = ℕ} 0 1 = cc in absurd (omega arith)
+  outcome-then e k = let d = ended (m c x) e in then-goes m f (d .1) ∙ k (d .0)
 
   pub outcome-stop : {r : Refusal} → outcome (m c x) ≡ refuses r → outcome ((m >>= f) c x) ≡ refuses r
-  unfolding outcome _>>=_
-  outcome-stop {r} e = go (m c x) e
-    where
-      go : (o : Out A) → outcome o ≡ refuses r → outcome {A = B} (elim o as (λ _. Out B) [ done log a c′ x′ ↦ after log (f a c′ x′) | refused log r ↦ refused log r ]) ≡ refuses r
-      go (done log b d y) q = let z : _≡_ {A = ℕ} 0 1 = cc in absurd (omega arith)
-      go (refused log k) q = let a : k ≡ r = cc in cc
+  outcome-stop e = outcome-stops (then-stops m f (ended-stops (m c x) e))
 
 -- Substitute beside results of x bytes, whatever follows
 module _ (F : ℕ) {B : Type 0} (qq : Bool) (m : NameMap) (s : Sexp) (k : Sexp → M B) (c x : ℕ) where

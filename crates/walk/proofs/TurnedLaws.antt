@@ -11,7 +11,6 @@ use Rattle.names.proofs.Frames.{same-then, same-wider, at-below, at-above, copi
 use Rattle.names.proofs.Parts.{into}
 use Rattle.names.proofs.Places.{at-place, at-join}
 use Rattle.records.specs.Answer.{gives, refused}
-use Rattle.records.specs.Depth.{depth}
 use Rattle.records.specs.Lists.{joined}
 use Rattle.records.specs.Records.{Loc, Kind, Assign, Body, BL, BQ, BV, BC, BM, BF, body-bytes, Binding, binding-bytes, Bindings, bindings-bytes, list-of, to-bindings}
 use Rattle.records.specs.Valid.{IsLet}

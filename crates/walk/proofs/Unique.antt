@@ -38,6 +38,7 @@ same-tree {a = a} {b = b} {bs} xs ys r s e =
     let w : a ≡ b = cc in
     w
 
+-- what stands at the start, and what is behind it
 at-front-of : {xs bs : Bytes} → At xs 0 bs → xs ≡ bs ++ drop (length bs) xs
 at-front-of {xs} {bs} a = sym (take-append-drop (length bs) xs) ∙ ap (λ (z : Bytes). z ++ drop (length bs) xs) (a .there)
 
@@ -45,24 +46,36 @@ at-front-of {xs} {bs} a = sym (take-append-drop (length bs) xs) ∙ ap (λ (z : 
 abbrev pub Unique : {A : Type 0} → (A → Bytes) → (A → Type 0) → Type 0
 Unique {A} bytes Good = (xs : Bytes) (a b : A) → Good a → Good b → At xs 0 (bytes a) → At xs 0 (bytes b) → a ≡ b
 
+-- two trees that one reader reads at the start are one
+pub unique-by : {A : Type 0} {P Q : Type 0} {n k : ℕ} {m : Reader A} {a b : A} {xs bs cs : Bytes} → Reads P n k Plain m bs a → Reads Q n k Plain m cs b → At xs 0 bs → At xs 0 cs → a ≡ b
+unique-by r s x y = same-tree _ _ r s (sym (at-front-of x) ∙ at-front-of y)
+
+-- two pairs of the same parts are one
+pub same-pair : {A B : Type 0} {p q : A × B} → p .0 ≡ q .0 → p .1 ≡ q .1 → p ≡ q
+same-pair {A} {B} {p} {q} e f = let z : _≡_ {A = A × B} (p .0, p .1) (q .0, q .1) = cc in z
+
+-- two trees at one place, with something behind each, are one, and both stand behind it
+pub unique-first : {A : Type 0} (f : A → Bytes) {Good : A → Type 0} → Unique f Good → {xs : Bytes} {p : ℕ} (a b : A) (cs bs : Bytes) → Good a → Good b → At xs p (f a ++ cs) → At xs p (f b ++ bs)
+    → (a ≡ b) × At xs (p + length (f a)) cs × At xs (p + length (f a)) bs
+unique-first {A} f u {p = p} a b cs bs g h x y =
+    let e = u _ a b g h (into (at-left (f a) cs x)) (into (at-left (f b) bs y)) in
+    (e, at-right (f a) cs x, at-place (p + length (f a)) (omega (arith, ap (λ (z : A). length (f z)) e)) (at-right (f b) bs y))
+
 pub unique-body : Unique body-bytes ValidBody
 unique-body xs a b p q x y =
-    same-tree _ _ (complete-readers level-limit .body level-limit lambda-limit Plain a (omega arith) (p .0) (p .1) (p .2))
-    (complete-readers level-limit .body level-limit lambda-limit Plain b (omega arith) (q .0) (q .1) (q .2)) (sym (at-front-of x) ∙ at-front-of y)
+    unique-by (complete-readers level-limit .body level-limit lambda-limit Plain a (omega arith) (p .0) (p .1) (p .2))
+    (complete-readers level-limit .body level-limit lambda-limit Plain b (omega arith) (q .0) (q .1) (q .2)) x y
 
 pub unique-sexp : Unique sexp-bytes ValidSexp
-unique-sexp xs a b p q x y = same-tree {n = 0} {k = 0} _ _ (reads-sexp p) (reads-sexp q) (sym (at-front-of x) ∙ at-front-of y)
+unique-sexp xs a b p q x y = unique-by {n = 0} {k = 0} (reads-sexp p) (reads-sexp q) x y
 
 pub unique-pattern : Unique pattern-field ValidPattern
-unique-pattern xs a b p q x y = same-tree {n = 0} {k = 0} _ _ (reads-pattern-of a p) (reads-pattern-of b q) (sym (at-front-of x) ∙ at-front-of y)
-
-pub unique-name : Unique name-field ValidName
-unique-name xs a b p q x y = same-tree {n = 0} {k = 0} _ _ (reads-name p) (reads-name q) (sym (at-front-of x) ∙ at-front-of y)
+unique-pattern xs a b p q x y = unique-by {n = 0} {k = 0} (reads-pattern-of a p) (reads-pattern-of b q) x y
 
 pub unique-binding : Unique binding-bytes ValidBinding
 unique-binding xs a b p q x y =
-    same-tree _ _ (reads-binding (readers level-limit) (suc level-limit) (complete-readers level-limit) level-limit lambda-limit Plain a (omega arith) (p .0) (p .1) (p .2))
-    (reads-binding (readers level-limit) (suc level-limit) (complete-readers level-limit) level-limit lambda-limit Plain b (omega arith) (q .0) (q .1) (q .2)) (sym (at-front-of x) ∙ at-front-of y)
+    unique-by (reads-binding (readers level-limit) (suc level-limit) (complete-readers level-limit) level-limit lambda-limit Plain a (omega arith) (p .0) (p .1) (p .2))
+    (reads-binding (readers level-limit) (suc level-limit) (complete-readers level-limit) level-limit lambda-limit Plain b (omega arith) (q .0) (q .1) (q .2)) x y
 
 -- a fine body
 pub unique-fine : {Only : Body → Type 0} {F d : ℕ} → Unique body-bytes (Fine Only F d)
@@ -75,11 +88,12 @@ same-bodies F d xs p []ᵇ []ᵇ f g n x y = refl
 same-bodies F d xs p []ᵇ (b ∷ᵇ bs) f g n x y = absurd (omega arith)
 same-bodies F d xs p (a ∷ᵇ cs) []ᵇ f g n x y = absurd (omega arith)
 same-bodies F d xs p (a ∷ᵇ cs) (b ∷ᵇ bs) f g n x y =
-    let e = unique-fine _ a b (f .0) (g .0) (into (at-left (body-bytes a) (bodies-bytes cs) x)) (into (at-left (body-bytes b) (bodies-bytes bs) y)) in
-    let l : p + length (body-bytes b) ≡ p + length (body-bytes a) = omega (arith, ap (λ (z : Body). length (body-bytes z)) e) in
-    let r = same-bodies F d xs (p + length (body-bytes a)) cs bs (f .1) (g .1) (omega arith) (at-right (body-bytes a) (bodies-bytes cs) x) (at-place (p + length (body-bytes a)) l (at-right (body-bytes b) (bodies-bytes bs) y)) in
+    let s = unique-first body-bytes unique-fine a b (bodies-bytes cs) (bodies-bytes bs) (f .0) (g .0) x y in
+    let e = s .0 in
+    let r = same-bodies F d xs (p + length (body-bytes a)) cs bs (f .1) (g .1) (omega arith) (s .1) (s .2) in
     cc
 
+-- and so at the start
 pub unique-bodies : {F d count : ℕ} → Unique bodies-bytes (FineBodies F d count)
 unique-bodies {F} {d} xs cs bs f g x y = same-bodies F d xs 0 cs bs (f .each) (g .each) (f .many ∙ sym (g .many)) x y
 
@@ -91,10 +105,9 @@ unique-bindings [] [] v w e x y = refl
 unique-bindings [] (c ∷ cs) v w e x y = absurd (omega arith)
 unique-bindings (b ∷ bs) [] v w e x y = absurd (omega arith)
 unique-bindings {xs} {q} (b ∷ bs) (c ∷ cs) v w e x y =
-    let s : b ≡ c = unique-binding _ b c (v .0) (w .0) (into (at-left (binding-bytes b) (joined binding-bytes bs) x)) (into (at-left (binding-bytes c) (joined binding-bytes cs) y)) in
-    let l = ap (λ (z : Binding). length (binding-bytes z)) s in
-    let r = unique-bindings bs cs (v .1) (w .1) (omega arith) (at-right (binding-bytes b) (joined binding-bytes bs) x)
-    (at-place (q + length (binding-bytes b)) (omega arith) (at-right (binding-bytes c) (joined binding-bytes cs) y)) in
+    let s = unique-first binding-bytes unique-binding b c (joined binding-bytes bs) (joined binding-bytes cs) (v .0) (w .0) x y in
+    let h = s .0 in
+    let r = unique-bindings bs cs (v .1) (w .1) (omega arith) (s .1) (s .2) in
     cc
 
 -- one map at most
@@ -108,7 +121,7 @@ tail-of a b xs ys e h =
 no-entry : (n x : Bytes) → [] ≡ name-field n ++ x → ⊥
 no-entry n x e = absurd (omega (arith, ap length e, length-append (name-field n) x, name-field-length n))
 
-pub unique-map : (m k : NameMap) → Limited m → Limited k → map-bytes m ≡ map-bytes k → m ≡ k
+unique-map : (m k : NameMap) → Limited m → Limited k → map-bytes m ≡ map-bytes k → m ≡ k
 unfolding map-bytes Limited
 unique-map [] [] l r e = refl
 unique-map [] ((o, n) ∷ k) l r e = absurd (no-entry o _ e)
@@ -120,6 +133,7 @@ unique-map ((o, n) ∷ m) ((o′, n′) ∷ k) l r e =
     let z = unique-map m k (l .2) (r .2) (tail-of n n′ _ _ q e₂) in
     cc
 
+-- so one map at most stands at the end of memory
 pub same-map : {mem : Bytes} {len : ℕ} {m k : NameMap} → MapAt mem len m → MapAt mem len k → m ≡ k
 same-map {m = m} {k = k} p q = unique-map m k (p .limited) (q .limited) (sym (p .there) ∙ q .there)
 

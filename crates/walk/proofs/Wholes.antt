@@ -27,6 +27,7 @@ use Rattle.walk.proofs.MapLaws.{map-of-part, map-after}
 use Rattle.walk.proofs.OnParts.{from, rejoin}
 use Rattle.walk.proofs.RunLaws.{step-gives, step-over, step-refuses}
 
+-- the length of the part from a place on
 pub from-length : (xs : Bytes) (a : ℕ) → a ≤ length xs → length (from xs a) ≡ length xs - a
 from-length xs a le = part-length xs a (length xs - a) (omega arith)
 
@@ -37,16 +38,19 @@ module _ (xs : Bytes) (a k : ℕ) (le : a + k ≤ length xs) {y : Bytes} (q len 
       let l = part-length xs a k le in
       same-wider (a + q) (a + k - len) (omega arith) (omega arith) (same-back xs a k le s (omega arith) (omega arith))
 
-  pub cut-size : length y ≡ k
+  cut-size : length y ≡ k
   cut-size = s .size ∙ part-length xs a k le
 
+  -- what it has written
   pub cut-at : {bs : Bytes} (p : ℕ) → a + q ≡ p → At y q bs → At (back xs a k y) p bs
   cut-at p e h = rw e at (at-back xs a k le y cut-size h)
 
+  -- what it answers
   pub cut-gives : {A : Type 0} {f : A → Bytes} {n : ℕ} {o : Outcome A} {r : Step} (p : ℕ) → a + q ≡ p → Gives f y q n o r → Gives f (back xs a k y) p n o r
   cut-gives p e g = rw e at (gives-back xs a k le cut-size g)
 
-  pub cut-leads : {A : Type 0} {f : A → Bytes} {Has : A → Type 0} {F n c x : ℕ} {run : M A} {r : Piece} (p : ℕ) → a + q ≡ p → Leads f Has F y q n run c x r → Leads f Has F (back xs a k y) p n run c x r
+  -- what a piece of a rule answers
+  cut-leads : {A : Type 0} {f : A → Bytes} {Has : A → Type 0} {F n c x : ℕ} {run : M A} {r : Piece} (p : ℕ) → a + q ≡ p → Leads f Has F y q n run c x r → Leads f Has F (back xs a k y) p n run c x r
   cut-leads p e (led u c′ x′ h l w g o) = led u c′ x′ h l w g (cut-at p e o)
   cut-leads p e (stopped z w g) = stopped z w g
 
@@ -79,6 +83,7 @@ pub record Led {A : Type 0} (f : A → Bytes) (Has : A → Type 0) (F : ℕ) (ne
   pub out : At new free (f u)
 
 module _ {A : Type 0} {f : A → Bytes} {Has : A → Type 0} {F : ℕ} {new : Bytes} {free n : ℕ} {run : M A} {c x : ℕ} {r : Piece} where
+  -- so an answer says
   pub took : (i w s d : ℕ) → r ≡ Took i w s d → Leads f Has F new free n run c x r → Led f Has F new free n run c x i w s d
   took i w s d e (led u c′ x′ h l g q o) =
       let a : c′ ≡ d = cc in
@@ -86,6 +91,7 @@ module _ {A : Type 0} {f : A → Bytes} {Has : A → Type 0} {F : ℕ} {new : By
       record { u = u; has = h; within = rw b at l; goes-on = λ k. rw (a, b) at (g k); read = cc; wrote = cc; out = o }
   took i w s d e (stopped z g q) = let y : _≡_ {A = ℕ} 0 1 = cc in absurd (omega arith)
 
+  -- and so a refusal
   pub halted : (z : Refusal) → r ≡ Stopped z → Leads f Has F new free n run c x r → (k : A → M Body) → outcome ((run >>= k) c x) ≡ refuses z
   halted z e (led u c′ x′ h l g q o) k = let y : _≡_ {A = ℕ} 0 1 = cc in absurd (omega arith)
   halted z e (stopped y g q) k = let a : y ≡ z = cc in rw a at (g k)
@@ -95,18 +101,28 @@ pub took-is : {a b c d x y z w : ℕ} → a ≡ x → b ≡ y → c ≡ z → d 
 took-is p q r s = cc
 
 -- a finished record
+pub finished-as : {A : Type 0} (bytes : A → Bytes) {F : ℕ} {new : Bytes} {free n i j : ℕ} (run : M A) (c : ℕ) {u : A} {c′ : ℕ} {r : Step} → Finishes i j F c′ r → outcome (run c 0) ≡ gives u c′ → i ≡ n
+    → j ≡ length (bytes u) → At new free (bytes u) → Gives bytes new free n (outcome (step F (λ v. length (bytes v)) run c 0)) r
+finished-as bytes {F} {new} {free} {n} {i} {j} run c {u} {c′} {r} q e ei ej a = go (leb j F) refl
+  where
+    go : (o : Bool) → leb j F ≡ o → Gives bytes new free n (outcome (step F (λ v. length (bytes v)) run c 0)) r
+    go true t =
+        let le : j ≤ F = leb-true _ _ t in
+        let z : Done i j c′ ≡ Done n (length (bytes u)) c′ = cc (ei, ej) in
+        gave u c′ (step-gives F (λ v. length (bytes v)) run c 0 e (omega arith)) (q .fits le ∙ z) a
+    go false t = let lt : F < j = leb-false _ _ t in refused over-long (step-over F (λ v. length (bytes v)) run c 0 e (omega arith)) (q .long (omega arith))
+
+-- a refusal before that
+pub refused-as : {A : Type 0} (bytes : A → Bytes) (F : ℕ) {new : Bytes} {free n : ℕ} (run : M A) (c : ℕ) {z : Refusal} {r : Step} → outcome (run c 0) ≡ refuses z → r ≡ Refused z
+    → Gives bytes new free n (outcome (step F (λ v. length (bytes v)) run c 0)) r
+refused-as bytes F run c {z} e q = refused z (step-refuses F (λ v. length (bytes v)) run c 0 e) q
+
+-- the same of a body
 pub finished-gives : {F : ℕ} {new : Bytes} {free n i j : ℕ} (run : M Body) (c : ℕ) {u : Body} {c′ : ℕ} {r : Step} → Finishes i j F c′ r → outcome (run c 0) ≡ gives u c′ → i ≡ n → j ≡ length (body-bytes u)
     → At new free (body-bytes u) → Gives body-bytes new free n (outcome (step F body-size run c 0)) r
 unfolding body-size
-finished-gives {F} {new} {free} {n} {i} {j} run c {u} {c′} {r} q e ei ej a = go (leb j F) refl
-  where
-    go : (o : Bool) → leb j F ≡ o → Gives body-bytes new free n (outcome (step F body-size run c 0)) r
-    go true t =
-        let le : j ≤ F = leb-true _ _ t in
-        let z : Done i j c′ ≡ Done n (length (body-bytes u)) c′ = cc (ei, ej) in
-        gave u c′ (step-gives F body-size run c 0 e (omega arith)) (q .fits le ∙ z) a
-    go false t = let lt : F < j = leb-false _ _ t in refused over-long (step-over F body-size run c 0 e (omega arith)) (q .long (omega arith))
+finished-gives = finished-as body-bytes
 
--- a refusal before that
 pub refused-gives : (F : ℕ) {new : Bytes} {free n : ℕ} (run : M Body) (c : ℕ) {z : Refusal} {r : Step} → outcome (run c 0) ≡ refuses z → r ≡ Refused z → Gives body-bytes new free n (outcome (step F body-size run c 0)) r
-refused-gives F run c {z} e q = refused z (step-refuses F body-size run c 0 e) q
+unfolding body-size
+refused-gives = refused-as body-bytes

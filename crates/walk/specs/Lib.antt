@@ -21,3 +21,5 @@ pub mod LambdaWalks
 pub mod NewNames
 pub mod LetWalks
 pub mod AssignWalks
+pub mod FormWalks
+pub mod Renaming

@@ -83,7 +83,7 @@ pub fn in_bodyform(mem: &mut [u8], t: Task) -> Step
 }
 
 // One of the two.
-fn either(mem: &mut [u8], t: Task, owning: bool) -> Step
+pub fn either(mem: &mut [u8], t: Task, owning: bool) -> Step
     requires { ⌜ BodyReady AnyBody owning (now mem) t ⌝ }
     ensures { λ r. ⌜ Walks AnyBody owning (now (mem .entry)) (now (mem .exit)) t r ⌝ }
 {

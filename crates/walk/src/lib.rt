@@ -4,11 +4,13 @@
 // of an S record by a map, `plans` how each S record is taken by it, `keep` records kept as they are.
 // `scopes` has args and patterns by new names, `places` where parts of a record go. `leaves` takes the
 // B records that go no level down, `desugar` a sequential let, and `bodies` has Own and In-body of
-// every B record. The other rules stand in specs/ and proofs/ alone.
+// every B record. `forms` has the rules on H records and CF, and `call` the three calls.
 use names::Refusal;
 
 pub mod bodies;
+pub mod call;
 pub mod desugar;
+pub mod forms;
 pub mod invent;
 pub mod keep;
 pub mod leaves;
@@ -83,4 +85,35 @@ pub enum Plan {
     Alone(Quasi, usize, usize),
     // Both parts go on.
     Parts,
+}
+
+// A record that a rule hands on to another use of a rule.
+pub enum Child {
+    Bodyform,
+    Helperform,
+    Compileform,
+}
+
+// What an H record or a CF ends with: a B record; a CF; a count and so many H records; or these and a
+// B record.
+pub enum Rest {
+    OneBody,
+    OneForm,
+    Listed,
+    Parts,
+}
+
+// By which rules, and beside which results: the args-rules; the in-rules; or the in-rules on results
+// of the args-rules, which leave the sum when their replacements are added.
+pub enum Way {
+    Own,
+    In,
+    Further,
+}
+
+// Which call is made: what it reads, and by which rule.
+pub enum Request {
+    WholeForm,
+    ChildrenOnly,
+    SingleHelper,
 }

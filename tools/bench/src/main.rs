@@ -1,11 +1,15 @@
-//! The proved record reader beside a plain Rust one, and the proved order beside Chialisp's: their speed, and their answers.
+//! The proved record reader beside a plain Rust one, and the proved calls beside Chialisp's Rust: their speed, and their answers.
 
 mod agree;
+mod calls;
+mod drawn;
+mod guarded;
 mod library;
 mod order_speed;
 mod orders;
 mod plain;
 mod speed;
+mod whole_speed;
 
 use std::process::ExitCode;
 
@@ -13,8 +17,14 @@ const HELP: &str = "bench COMMAND ..
 
   speed [--seed S]            bytes per second of the library and of a plain Rust reader on forms of three sizes, and their ratio
   agree --count N --seed S    N inputs, valid, damaged and random: number and place of both against the oracle's reader
+  calls --count N --seed S [--directed]
+                              N cases of the calls Whole form, Children only and Single helper, whole, damaged and random:
+                              their answers against the oracle's; first every directed case, if asked for
+  names --count N --seed S    N cases of the call Name
   orders --count N --seed S   N assigns, ordered, deadlocked and refused: the answers of the call Order against the oracle's
-  order-speed                 microseconds that ordering an assign of 10 or 64 bindings takes the library and Chialisp's Rust";
+  order-speed                 microseconds that ordering an assign of 10 or 64 bindings takes the library and Chialisp's Rust
+  whole [--seed S]            nanoseconds for a byte of Whole form, from bytes to bytes, beside Chialisp's Rust on built trees and
+                              with reading and writing";
 
 fn main() -> ExitCode {
     let words: Vec<String> = std::env::args().skip(1).collect();
@@ -33,8 +43,13 @@ fn command(words: &[&str]) -> Result<(), String> {
         ["speed"] => speed::speed(1),
         ["speed", "--seed", seed] => speed::speed(number(seed)?),
         ["agree", "--count", count, "--seed", seed] => agree::agree(number(seed)?, number(count)? as usize),
+        ["calls", "--count", count, "--seed", seed] => calls::agree(number(seed)?, number(count)? as usize, false),
+        ["calls", "--count", count, "--seed", seed, "--directed"] => calls::agree(number(seed)?, number(count)? as usize, true),
+        ["names", "--count", count, "--seed", seed] => calls::names(number(seed)?, number(count)? as usize),
         ["orders", "--count", count, "--seed", seed] => orders::agree(number(seed)?, number(count)? as usize),
         ["order-speed"] => order_speed::speed(),
+        ["whole"] => whole_speed::speed(1),
+        ["whole", "--seed", seed] => whole_speed::speed(number(seed)?),
         [] | ["help" | "--help" | "-h"] => {
             println!("{HELP}");
             Ok(())

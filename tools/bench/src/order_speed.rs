@@ -45,25 +45,29 @@ fn row(what: &str, bound: Bound, assign: &Let) -> Result<(), String> {
     same_answers(&case, &mut work, &mut result)?;
     let trees = Trees::of(assign);
     let mut runs: [&mut dyn FnMut() -> bool; 2] =
-        [&mut || library::call_order(black_box(&case), &mut work, &mut result).number == 0, &mut || black_box(&trees).ordered()];
+        [&mut || run(black_box(&case), &mut work, &mut result), &mut || black_box(&trees).ordered()];
     let [call, rust] = best(&mut runs, RUN_BINDINGS / count).map(|seconds| seconds * 1e6);
     let start = format!("{what:>12} {count:>12} {:>12} {:>12}", format!("{bound:?}"), case.input.len());
     println!("{start} {call:>12.1} {rust:>12.1} {:>12.2}", rust / call);
     Ok(())
 }
 
+/// The call Order on a case: whether it accepts.
+fn run(case: &Case, work: &mut [u8], result: &mut [u8]) -> bool {
+    library::call(case, work, &case.input, result).number == 0
+}
+
 /// The library gives the order that the Rust gives.
 fn same_answers(case: &Case, work: &mut [u8], result: &mut [u8]) -> Result<(), String> {
     let wanted = answers::answer(case)?.output;
-    let called = library::call_order(case, work, result);
-    match called.number == 0 && result == wanted {
+    match run(case, work, result) && result == wanted {
         true => Ok(()),
         false => Err(format!("the library orders {result:?}, the Rust {wanted:?}")),
     }
 }
 
 /// The seconds of each in its best of several runs of so many times. The runs take turns, so that all meet the same machine.
-fn best<const N: usize>(runs: &mut [&mut dyn FnMut() -> bool; N], times: usize) -> [f64; N] {
+pub fn best<const N: usize>(runs: &mut [&mut dyn FnMut() -> bool; N], times: usize) -> [f64; N] {
     let mut best = [f64::MAX; N];
     for _ in 0..RUNS {
         for (best, run) in best.iter_mut().zip(runs.iter_mut()) {

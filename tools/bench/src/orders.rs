@@ -1,6 +1,6 @@
 //! The answers of the proved call Order against the oracle's: Chialisp's `toposort_assign_bindings`, with the refusals that it lacks.
 
-use crate::library::{self, Ordered};
+use crate::library::{self, Answered};
 use oracle::answers::{self, Answer, Case, MAX_F, WORK_PER_F};
 use oracle::orders::Series;
 use oracle::vectors;
@@ -20,10 +20,9 @@ pub fn agree(seed: u64, count: usize) -> Result<(), String> {
         }
         let wanted = answers::answer(&case)?;
         let mut result = vec![FILL; case.buffer];
-        let got = library::call_order(&case, &mut work, &mut result);
+        let got = library::call(&case, &mut work[..case.work as usize], &case.input, &mut result);
         if !same(&case, &got, &result, &wanted) {
-            let Ordered { number, place, rounds, len } = got;
-            let told = format!("{number} {place}, rounds {rounds}, length {len}, buffer {}", vectors::hex(&result));
+            let told = format!("{got:?}, buffer {}", vectors::hex(&result));
             return Err(format!("the library gives {told}: {}", vectors::line(&case, &wanted)));
         }
         by_number[wanted.number as usize] += 1;
@@ -36,15 +35,14 @@ pub fn agree(seed: u64, count: usize) -> Result<(), String> {
     Ok(())
 }
 
-/// Number, place and length, the bytes written (of a deadlock as a set), the rounds as far as they are fixed, and no byte past them
+/// Number, place, counter and length, the bytes written (of a deadlock as a set), the rounds as far as they are fixed, and no byte past them
 /// changed.
-fn same(case: &Case, got: &Ordered, result: &[u8], wanted: &Answer) -> bool {
+fn same(case: &Case, got: &Answered, result: &[u8], wanted: &Answer) -> bool {
     let length = wanted.output.len();
     let bindings = if wanted.number == 0 { length as u64 } else { 0 };
     let rounds = bindings.min(1)..=bindings;
-    (got.number, got.place, got.len) == (wanted.number, wanted.place, length as u64)
+    (got.number, got.place, got.counter, got.len) == (wanted.number, wanted.place, case.counter, length as u64)
         && rounds.contains(&got.rounds)
-        && wanted.counter == case.counter
         && same_bytes(&result[..length], wanted)
         && result[length..].iter().all(|byte| *byte == FILL)
 }

@@ -2,7 +2,7 @@
 
 use crate::codec;
 use crate::compiler::codegen::toposort_assign_bindings;
-use crate::compiler::comptypes::{Binding, CompileErr};
+use crate::compiler::comptypes::{Binding, CompileErr, CompileForm};
 use crate::compiler::gensym::{gensym, ARGNAME_CTR};
 use crate::compiler::rename::{rename_args_compileform, rename_args_helperform, rename_children_compileform};
 use crate::compiler::srcloc::Srcloc;
@@ -246,6 +246,29 @@ impl Trees {
     pub fn ordered(&self) -> bool {
         toposort_assign_bindings(&self.loc, &self.bindings).is_ok()
     }
+}
+
+/// A form as the Rust has it, made once to be renamed many times.
+pub struct FormTree(CompileForm);
+
+impl FormTree {
+    pub fn of(form: &Form) -> FormTree {
+        FormTree(codec::form_to_rust(form))
+    }
+
+    /// Runs `rename_args_compileform` from a counter: whether there is no deadlock.
+    pub fn renamed(&self, from: u64) -> bool {
+        set_counter(from);
+        rename_args_compileform(&self.0).is_ok()
+    }
+}
+
+/// Whole form by the Rust from bytes to bytes: read, made into trees, renamed, and written; nothing for a refusal.
+pub fn rust_bytes(input: &[u8], from: u64) -> Option<Bytes> {
+    let form = reader::form(input).ok()?;
+    set_counter(from);
+    let renamed = rename_args_compileform(&codec::form_to_rust(&form)).ok()?;
+    Some(codec::form_from_rust(&renamed).bytes())
 }
 
 /// Runs the Rust from a counter. Its one error is the deadlock; a panic is a disagreement.

@@ -3,8 +3,9 @@
 #[macro_use]
 mod shims;
 pub mod answers;
-pub mod bodies;
+mod bodies;
 pub mod boundary;
+pub mod calls;
 pub mod cases;
 mod codec;
 pub mod compare;

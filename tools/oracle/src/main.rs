@@ -5,7 +5,7 @@ use oracle::generate::Maker;
 use oracle::orders;
 use oracle::reads::{self, Series};
 use oracle::records::{Bytes, Record};
-use oracle::{bodies, cases, compare, print, rows, sample, sexps, vectors};
+use oracle::{calls, cases, compare, print, rows, sample, sexps, vectors};
 use std::io::{self, BufRead};
 use std::process::ExitCode;
 
@@ -26,11 +26,11 @@ const HELP: &str = "oracle COMMAND ..
                       writes N different cases of the call order to a file, most of them small; or of any length
   store-sexps --count N --seed S FILE
                       writes N different cases of Invent and Substitute to a file, most of them small
-  bodies --count N --seed S [--full]
-                      N cases of Own and In-body as vector lines of the call helper, each after a line that says what
+  calls --count N --seed S [--full]
+                      N cases of the calls whole, children and helper as vector lines, each after a line that says what
                       it is about
-  store-bodies --count N --seed S [--full] FILE
-                      writes N different cases of Own and In-body to a file, most of them small; or of any length
+  store-calls --count N --seed S [--full] FILE
+                      writes N different cases of these calls to a file, most of them small; or of any length
   rows [--batch N]    reads vector lines and prints an antt file that checks them by computation
   show HEX            a CF, a helper or an assign, readable
   run CALL HEX [COUNTER]
@@ -73,9 +73,9 @@ fn command(words: &[&str]) -> Done {
         ["store-sexps", options @ .., file] => {
             store(file, options, |seed, count| sexps::store(sexps::Series::seeded(seed), count))
         }
-        ["bodies", options @ ..] => print_bodies(options),
-        ["store-bodies", options @ .., file] => {
-            store(file, options, |seed, count| bodies::store(body_series(options, seed), count))
+        ["calls", options @ ..] => print_calls(options),
+        ["store-calls", options @ .., file] => {
+            store(file, options, |seed, count| calls::store(call_series(options, seed), count))
         }
         ["rows", options @ ..] => rows::rows(&input_lines()?, number(options, "--batch", Some(rows::BATCH))? as usize),
         ["show", hex] => show(hex),
@@ -147,17 +147,18 @@ fn print_reads(options: &[&str]) -> Done {
     Ok(())
 }
 
-fn body_series(options: &[&str], seed: u64) -> bodies::Series {
+/// The series that the options ask for.
+fn call_series(options: &[&str], seed: u64) -> calls::Series {
     match options.contains(&"--full") {
-        true => bodies::Series::full(seed),
-        false => bodies::Series::short(seed),
+        true => calls::Series::full(seed),
+        false => calls::Series::short(seed),
     }
 }
 
-fn print_bodies(options: &[&str]) -> Done {
-    let series = body_series(options, number(options, "--seed", None)?);
+fn print_calls(options: &[&str]) -> Done {
+    let series = call_series(options, number(options, "--seed", None)?);
     let count = number(options, "--count", None)? as usize;
-    bodies::lines(series, count)?.iter().for_each(|line| println!("{line}"));
+    calls::lines(series, count)?.iter().for_each(|line| println!("{line}"));
     Ok(())
 }
 

@@ -1,11 +1,12 @@
 //! Reading cases: an input, the record that it must be, F, and what the reader says to it.
 
 mod fields;
-mod limits;
+pub(crate) mod limits;
 mod mods;
 mod series;
 
 pub use series::Series;
+pub(crate) use series::{at_limits, marks, noise, with_mods};
 
 use crate::reader::{self, Refusal};
 use crate::records::Bytes;

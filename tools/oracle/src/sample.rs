@@ -90,7 +90,8 @@ pub fn damaged(random: &mut Random, mut input: Bytes) -> Bytes {
     input
 }
 
-fn tuned(random: &mut Random, call: Call, input: Bytes) -> Case {
+/// A case of an input, with F, work memory, counter and buffer near what it asks for.
+pub(crate) fn tuned(random: &mut Random, call: Call, input: Bytes) -> Case {
     let counter = if random.one_in(60) { MAX_COUNTER + 1 + random.below(3) as u64 } else { some_counter(random) };
     let f = some_f(random, call, &input, counter);
     let least = WORK_PER_F * f;

@@ -12,6 +12,10 @@ pub fn two_bytes(field: usize) -> [u8; 2] {
     u16::try_from(field).expect("a field of two bytes").to_be_bytes()
 }
 
+pub fn four_bytes(field: u64) -> [u8; 4] {
+    u32::try_from(field).expect("a field of four bytes").to_be_bytes()
+}
+
 /// So many cases of a series that differ, with what `stored` gives of each.
 pub fn different<Case>(
     series: impl Iterator<Item = Case>,

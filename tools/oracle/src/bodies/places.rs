@@ -1,6 +1,6 @@
 //! Records whose every L is its own.
 
-use crate::records::{Binding, Body, Form, Helper, Hint, Lambda, Let, Loc, Pattern, Sexp};
+use crate::records::{Binding, Body, Form, Head, Helper, Hint, Lambda, Let, Loc, Pattern, Sexp};
 use std::rc::Rc;
 
 /// Gives out L, one after the other.
@@ -71,11 +71,27 @@ impl Places {
         }
     }
 
-    /// A form; its helpers stay as they are.
-    fn form(&mut self, form: &Form) -> Form {
+    /// A form with its helpers.
+    pub fn form(&mut self, form: &Form) -> Form {
         let loc = self.next();
         let args = self.sexp(&form.args);
-        let helpers: Vec<Helper> = form.helpers.clone();
+        let helpers = form.helpers.iter().map(|helper| self.helper(helper)).collect();
         Form { loc, rest: form.rest.clone(), args, helpers, body: self.body(&form.body) }
+    }
+
+    /// The head of a helper.
+    fn head(&mut self, head: &Head) -> Head {
+        Head { loc: self.next(), ..head.clone() }
+    }
+
+    /// A helper with what it holds.
+    pub fn helper(&mut self, helper: &Helper) -> Helper {
+        match helper {
+            Helper::HC(head, body) => Helper::HC(self.head(head), self.body(body)),
+            Helper::HM(head, args, form) => Helper::HM(self.head(head), self.sexp(args), self.form(form)),
+            Helper::HD(head, inline, args, body) => Helper::HD(self.head(head), *inline, self.sexp(args), self.body(body)),
+            Helper::HN(head, helpers) => Helper::HN(self.head(head), helpers.iter().map(|helper| self.helper(helper)).collect()),
+            Helper::HR(head) => Helper::HR(self.head(head)),
+        }
     }
 }

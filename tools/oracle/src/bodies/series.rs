@@ -1,39 +1,20 @@
-//! Series of cases of Own and In-body: those directed at a rule, a sum or a race first, then random ones without end.
+//! The directed cases of Own and In-body: at a rule, a sum or a race each.
 
 use super::places::Places;
 use super::shapes::{self, KINDS};
 use super::slots::{self, Scope, SCOPES};
-use super::Case;
-use crate::answers::{self, Call, MAX_COUNTER, MAX_F, MIN_F, WORK_PER_F};
+use crate::answers::{self, Call, MAX_COUNTER, MAX_F, MIN_F};
+use crate::calls::{least_f, Gathered, COUNTERS, LOCS};
 use crate::cases::{atom, nil};
 use crate::generate::Maker;
 use crate::orders::shapes as needs;
 use crate::records::{Body, Bytes, Head, Helper, Record};
-use crate::sample;
-use std::collections::VecDeque;
 
-/// Counters of one, two and ten digits, before one of more, and the limit.
-const COUNTERS: &[u64] = &[0, 0, 8, 9, 41, 99, 999999999, MAX_COUNTER - 1, MAX_COUNTER];
-/// Where the L of a case start; the last ones pass to 0.
-const LOCS: &[u32] = &[0, 0, 0, 250, 65530, 16909060, u32::MAX - 9];
-/// The most bytes of a random input of a short series.
-const SMALL: usize = 420;
-
+/// The cases as they are made; the full ones have every place and growth.
 pub struct Series {
     pub(super) maker: Maker,
-    waiting: VecDeque<Case>,
+    pub gathered: Gathered,
     pub(super) full: bool,
-}
-
-impl Iterator for Series {
-    type Item = Case;
-
-    fn next(&mut self) -> Option<Case> {
-        while self.waiting.is_empty() {
-            self.more();
-        }
-        self.waiting.pop_front()
-    }
 }
 
 pub(super) fn helper(body: &Body, from: u32) -> Bytes {
@@ -41,37 +22,10 @@ pub(super) fn helper(body: &Body, from: u32) -> Bytes {
     Helper::HC(Head { loc: from, name: Bytes::new(), rest: Bytes::new() }, body).bytes()
 }
 
-pub(super) fn least_f(input: &[u8]) -> usize {
-    input.len().max(MIN_F as usize)
-}
-
-/// What passes F on the way of a walk, one after the other, where F is always just what passed it before.
-pub(super) fn rises(input: &[u8], counter: u64) -> Vec<usize> {
-    let mut f = least_f(input);
-    let mut all = Vec::new();
-    loop {
-        let peak = answers::walked_within(Call::Helper, input, counter, f).peak;
-        if peak <= f || peak > MAX_F as usize {
-            return all;
-        }
-        all.push(peak);
-        f = peak;
-    }
-}
-
 impl Series {
-    /// Directed cases of some sizes, and short random ones.
-    pub fn short(seed: u64) -> Series {
-        Series::seeded(seed, false)
-    }
-
-    /// Every directed case, and random ones of any length.
-    pub fn full(seed: u64) -> Series {
-        Series::seeded(seed, true)
-    }
-
-    fn seeded(seed: u64, full: bool) -> Series {
-        let mut series = Series { maker: Maker::seeded(seed), waiting: VecDeque::new(), full };
+    /// Directed cases of some sizes, or all.
+    pub fn seeded(seed: u64, full: bool) -> Series {
+        let mut series = Series { maker: Maker::seeded(seed), gathered: Gathered::default(), full };
         series.rules();
         series.names();
         series.depths();
@@ -84,10 +38,9 @@ impl Series {
         series
     }
 
+    /// A case of Single helper.
     pub(super) fn push(&mut self, about: &str, f: usize, counter: u64, input: Bytes) {
-        let call =
-            answers::Case { call: Call::Helper, f: f as u64, work: WORK_PER_F * MAX_F, counter, buffer: usize::MAX, input };
-        self.waiting.push_back(Case { about: about.to_string(), call });
+        self.gathered.push(about, Call::Helper, f, counter, input);
     }
 
     fn some_counter(&mut self) -> u64 {
@@ -102,18 +55,13 @@ impl Series {
     /// A case in which F is enough.
     pub(super) fn plain(&mut self, about: &str, counter: u64, body: &Body) {
         let input = self.placed(body);
-        let most = rises(&input, counter).last().copied().unwrap_or(0);
-        self.push(about, most.max(least_f(&input)), counter, input);
+        self.gathered.plain(about, Call::Helper, counter, input);
     }
 
     /// With F at what passes it last, and one below.
     pub(super) fn tight(&mut self, about: &str, counter: u64, body: &Body) {
         let input = self.placed(body);
-        let most = rises(&input, counter).last().copied().unwrap_or(0);
-        if most > least_f(&input) {
-            self.push(about, most - 1, counter, input.clone());
-        }
-        self.push(about, most.max(least_f(&input)), counter, input);
+        self.gathered.tight(about, Call::Helper, counter, input);
     }
 
     /// Every rule on every kind of record, in every scope.
@@ -273,22 +221,5 @@ impl Series {
             let a_macro = Body::BM(0, Box::new(crate::cases::form_of(slots::empty())));
             self.plain("BM in a binding", 0, &slots::let_body(kind, vec![slots::name_binding(b"x", a_macro)], slots::empty()));
         }
-    }
-
-    /// The next random case.
-    fn more(&mut self) {
-        let budget = [2, 6, 12, 24, 60][self.maker.random.weighted(&[1, 4, 6, 4, self.full as usize])];
-        let mut input = self.maker.some_constant(budget).bytes();
-        let random = &mut self.maker.random;
-        let damaged = random.one_in(40);
-        if damaged {
-            input = sample::damaged(random, input);
-        }
-        if !self.full && input.len() > SMALL {
-            return;
-        }
-        let counter = sample::some_counter(random);
-        let f = sample::some_f(random, Call::Helper, &input, counter) as usize;
-        self.push(if damaged { "random, damaged" } else { "random" }, f, counter, input);
     }
 }

@@ -3,7 +3,7 @@
 use crate::cases::{body_of, call, lambda, let_of, nil, var};
 use crate::orders::shapes::bind;
 use crate::records::{Binding, Body, Kind, Lambda, Pattern, Sexp};
-use crate::sexps::shapes::{list, named as atom_of};
+use crate::sexps::shapes::{integer, list, named as atom_of};
 
 /// The name that the scopes around a record bind: the empty one, which grows most.
 pub const AROUND: &[u8] = b"";
@@ -20,8 +20,17 @@ pub enum Fill {
     Grows(usize),
     /// So many uses of a name.
     Uses(&'static [u8], usize),
+    /// A lambda whose capture args In-body makes shorter, two bytes each.
+    Shrinks(usize),
     Refused(Bomb),
 }
+
+/// A way to make a part grow, and its name.
+pub type Way = (&'static str, fn(usize) -> Fill);
+
+/// What makes a part grow: a let or names of its own, uses of the name bound around the record, or of the one that it binds first.
+pub const WAYS: [Way; 3] =
+    [("growth", Fill::Grows), ("uses", |count| Fill::Uses(AROUND, count)), ("own uses", |count| Fill::Uses(OWN, count))];
 
 /// What is refused, and when: by the first Own, by the first Own in a lambda, or by the second, which In-body takes there.
 #[derive(Clone, Copy, Debug, PartialEq, Eq)]
@@ -31,6 +40,8 @@ pub enum Bomb {
     LambdaDeadlock,
     SecondDeadlock,
     SecondLongName,
+    /// A name too long when Own takes it so often.
+    LateLongName(usize),
 }
 
 pub const BOMBS: [Bomb; 5] = [Bomb::Deadlock, Bomb::SecondDeadlock, Bomb::LongName, Bomb::SecondLongName, Bomb::LambdaDeadlock];
@@ -43,6 +54,8 @@ impl Bomb {
             Bomb::LambdaDeadlock => "a deadlock in a lambda",
             Bomb::SecondDeadlock => "a deadlock at the second reading",
             Bomb::SecondLongName => "a name too long the second time",
+            Bomb::LateLongName(3) => "a name too long the third time",
+            Bomb::LateLongName(_) => "a name too long later",
         }
     }
 }
@@ -106,6 +119,10 @@ fn bomb(bomb: Bomb, counter: u64) -> Body {
         Bomb::LambdaDeadlock => lambda_of(nil(), empty(), nil(), deadlocked()),
         Bomb::SecondDeadlock => lambda_of(nil(), empty(), nil(), deadlocked_then()),
         Bomb::SecondLongName => lambda_of(nil(), empty(), nil(), long_name(twice_too_long(counter))),
+        Bomb::LateLongName(times) => {
+            let longer = 3 + (counter + 100).to_string().len();
+            lambda_of(nil(), empty(), nil(), long_name(255 - (times - 1) * longer))
+        }
     }
 }
 
@@ -113,19 +130,27 @@ pub fn lambda_of(capture_args: Sexp, captures: Body, args: Sexp, body: Body) -> 
     Body::BF(Box::new(Lambda { loc: 0, keyword: None, capture_args, captures, args, body }))
 }
 
-fn body_filled(fill: &Fill, counter: u64) -> Body {
+/// A lambda with so many capture args `(quote ())` that zero closes, which Substitute closes with nil.
+fn shrinking(count: usize) -> Body {
+    let quoted = list(vec![atom_of(b"quote"), nil()], integer(b"\x00"));
+    lambda_of(list(vec![quoted; count], nil()), empty(), nil(), empty())
+}
+
+/// A body that stands in a place.
+pub fn body_filled(fill: &Fill, counter: u64) -> Body {
     match fill {
         Fill::Plain => empty(),
         Fill::Grows(count) => growing(*count),
         Fill::Uses(name, count) => uses(name, *count),
+        Fill::Shrinks(count) => shrinking(*count),
         Fill::Refused(what) => bomb(*what, counter),
     }
 }
 
 /// An S record in a place where names are drawn, or where they go by the map around.
-fn sexp_filled(fill: &Fill, name: &[u8]) -> Sexp {
+pub fn sexp_filled(fill: &Fill, name: &[u8]) -> Sexp {
     match fill {
-        Fill::Plain => atom_of(name),
+        Fill::Plain | Fill::Shrinks(_) => atom_of(name),
         Fill::Grows(count) => list(vec![atom_of(name); *count], nil()),
         Fill::Uses(name, count) => list(vec![atom_of(name); *count], nil()),
         Fill::Refused(_) => atom_of(&[b'n'; TOO_LONG]),

@@ -1,9 +1,10 @@
 //! Series of cases directed at the sums and at the sequence of 5, 6 and 7.
 
-use super::series::{helper, rises, Series};
+use super::series::{helper, Series};
 use super::shapes;
-use super::slots::{self, Bomb, Fill, Scope, Shape, AROUND, BOMBS, OWN, SCOPES, SHAPES};
-use crate::answers::MAX_COUNTER;
+use super::slots::{self, Bomb, Fill, Scope, Shape, BOMBS, SCOPES, SHAPES, WAYS};
+use crate::answers::{Call, MAX_COUNTER};
+use crate::calls::rises;
 use crate::cases::nil;
 use crate::records::Body;
 
@@ -15,9 +16,6 @@ const GROWTHS: [usize; 9] = [3, 6, 9, 13, 18, 24, 32, 44, 60];
 const STEEP: usize = 20;
 /// How often a part that stands behind a refusal has what would make it grow.
 const BEHIND: usize = 20;
-/// What makes a part grow: a let or names of its own, uses of the name bound around the record, or of the one that it binds first.
-const WAYS: [(&str, fn(usize) -> Fill); 3] =
-    [("growth", Fill::Grows), ("uses", |count| Fill::Uses(AROUND, count)), ("own uses", |count| Fill::Uses(OWN, count))];
 
 /// A record in a scope, with a part that grows and perhaps one that is refused.
 #[derive(Clone, Copy)]
@@ -47,7 +45,7 @@ impl Sum {
 
     /// What passes F last.
     fn last(&self, count: usize) -> Option<usize> {
-        rises(&helper(&self.body(count), 0), COUNTER).last().copied()
+        rises(Call::Helper, &helper(&self.body(count), 0), COUNTER).last().copied()
     }
 
     /// The growths at which F is passed.
@@ -159,7 +157,8 @@ impl Series {
                             let parts: Vec<Body> = sequence.iter().map(|digit| racer(*digit, second, count)).collect();
                             scope.around(shapes::in_sequence(&parts)[kind].clone())
                         };
-                        let least = GROWTHS.into_iter().find(|count| !rises(&helper(&body(*count), 0), COUNTER).is_empty());
+                        let least =
+                            GROWTHS.into_iter().find(|count| !rises(Call::Helper, &helper(&body(*count), 0), COUNTER).is_empty());
                         match least {
                             Some(count) => self.tight(&about, COUNTER, &body(count)),
                             None => self.plain(&about, COUNTER, &body(9)),

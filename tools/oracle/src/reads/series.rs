@@ -46,7 +46,7 @@ impl Series {
     fn seeded(seed: u64, mut places: Places, all_f: &[u64]) -> Series {
         let (maker, waiting, full) = (Maker::seeded(seed), limits::lengths(all_f).into(), places.is_all());
         let mut series = Series { maker, waiting, full };
-        for (asked, input) in at_limits(&mut places) {
+        for (asked, input) in limited(&mut places) {
             limits::shortest(asked, &input).into_iter().for_each(|beginning| series.wait(asked, beginning));
             series.wait(asked, input);
         }
@@ -109,7 +109,25 @@ impl Series {
     }
 }
 
-fn at_limits(places: &mut Places) -> Inputs {
+/// Which of several inputs of one sort are taken.
+fn places(full: bool) -> Places {
+    match full {
+        true => Places::all(),
+        false => Places::by_turns(),
+    }
+}
+
+/// Inputs at the limits of the records and past them; of each sort one, or all.
+pub(crate) fn at_limits(full: bool) -> Inputs {
+    limited(&mut places(full))
+}
+
+/// Inputs with BM in and around assigns; of each sort one, or all.
+pub(crate) fn with_mods(full: bool) -> Inputs {
+    mods::all(&mut places(full))
+}
+
+fn limited(places: &mut Places) -> Inputs {
     let nesting = [limits::levels(places), limits::sequentials(places), limits::lambdas(places)];
     [nesting.concat(), limits::counts(), limits::conses()].concat()
 }
@@ -136,12 +154,13 @@ fn plain(maker: &mut Maker, asked: Asked) -> Bytes {
     }
 }
 
-fn noise(random: &mut Random) -> Bytes {
+/// Random bytes.
+pub(crate) fn noise(random: &mut Random) -> Bytes {
     (0..random.below(80)).map(|_| if random.one_in(2) { random.pick(TELLING) } else { random.draw() as u8 }).collect()
 }
 
 /// Marks with bytes of zero between them, as many as their fields often have.
-fn marks(random: &mut Random) -> Bytes {
+pub(crate) fn marks(random: &mut Random) -> Bytes {
     const MARKS: &[&[u8; 2]] = &[
         b"CF", b"HC", b"HM", b"HD", b"HN", b"HR", b"BL", b"BQ", b"BV", b"BC", b"BM", b"BF", b"BB", b"SN", b"SC", b"SI", b"SQ",
         b"SA",
