@@ -1,1 +1,1 @@
-mod Answers
+mod ToldAnswers

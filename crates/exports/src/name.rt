@@ -2,7 +2,7 @@
 use crate::tell::tell;
 use names::call::name_call;
 ghost use mathlib.Core.Path.{_≡_};
-ghost use Rattle.names.specs.Answers.{name-call};
+ghost use Rattle.names.specs.CallAnswer.{name-call};
 ghost use Rattle.exports.specs.Linked.{answer-in};
 
 // Writes the name that `gensym` makes at the front of the result buffer.

@@ -4,7 +4,7 @@ use mathlib.Core.List.{_++_}
 use native.Mathlib.Omega.{arith}
 use Prim.Native.Nat.{ℕ, _+_, _≤_}
 use lib.ListN.{length, length-append}
-use Rattle.names.specs.Answers.{written}
+use Rattle.names.specs.CallAnswer.{written}
 use Rattle.names.specs.Names.{Bytes, ascii, decimal, gensym}
 use Rattle.names.specs.Segments.{Filled}
 use Rattle.names.proofs.Segments.{filled-then, filled-written}

@@ -1,4 +1,4 @@
-pub mod Answers
+pub mod CallAnswers
 pub mod Digits
 pub mod Fields
 pub mod Frames

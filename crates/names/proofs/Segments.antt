@@ -7,7 +7,7 @@ use native.Mathlib.Omega.{arith}
 use Prim.Native.Nat.{ℕ, suc, _+_, _≤_, _<_}
 use lib.ListN.{length, take, drop, getD, set, length-append, take-append-drop}
 use lib.Seq.{drop-append-add, drop-at, drop-drop, drop-paste, length-paste, length-take-le, paste, set-at, take-add, take-append-seam, take-at, take-length, take-suc}
-use Rattle.names.specs.Answers.{written}
+use Rattle.names.specs.CallAnswer.{written}
 use Rattle.names.specs.Names.{Bytes}
 use Rattle.names.specs.Segments.{Filled}
 

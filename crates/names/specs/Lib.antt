@@ -2,4 +2,4 @@ pub mod Names
 pub mod Maps
 pub mod Segments
 pub mod Refusals
-pub mod Answers
+pub mod CallAnswer

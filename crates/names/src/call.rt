@@ -8,7 +8,7 @@ use crate::make::gensym_len;
 use crate::refusals::no_refusal;
 use crate::refusals::placeless;
 ghost use mathlib.Core.Path.{_≡_};
-ghost use Rattle.names.specs.Answers.{refused-answer, accepted-answer, name-call};
+ghost use Rattle.names.specs.CallAnswer.{refused-answer, accepted-answer, name-call};
 ghost use Rattle.names.specs.Names.{Bytes};
 
 // The answer of a refusal: all else is as given.

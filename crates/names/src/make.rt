@@ -3,7 +3,7 @@ use crate::bytes::put;
 ghost use mathlib.Core.Path.{_≡_};
 ghost use Prim.Native.Nat.{_+_, _^_, _≤_, _<_};
 ghost use lib.ListN.{length};
-ghost use Rattle.names.specs.Answers.{written};
+ghost use Rattle.names.specs.CallAnswer.{written};
 ghost use Rattle.names.specs.Names.{decimal, gensym};
 ghost use Rattle.names.specs.Segments.{Filled};
 

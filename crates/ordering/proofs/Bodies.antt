@@ -156,7 +156,7 @@ module _ {a : Bytes} {ps : List ℕ} {s : Bytes} {v : CallView} {t : TaggedView}
 
 -- a BF: the word, the capture args, the args, the body
 module _ {a : Bytes} {ps : List ℕ} {s : Bytes} {v : LambdaView} {l₀ l₁ l₂ l₃ l₄ : List ℕ} {n c d : ℕ} {q r : Listed} where
-  pub lambda-reaches : SeesLambda s v → Names (ascii "lambda" ∷ []) a ps l₀ l₁ n c → ((t : Sexp) → SexpFields t → At s (v .binders) (sexp-bytes t) → Names (captured t) a ps l₁ l₂ c d)
+  pub lambda-reaches : SeesLambda s v → Names (ascii "lambda" ∷ []) a ps l₀ l₁ n c → ((t : Sexp) → SexpFields t → At s (v .«capture_args») (sexp-bytes t) → Names (captured t) a ps l₁ l₂ c d)
       → Lists fields-part make-provides-set a ps s (v .args) l₂ l₃ d q → Reaches 1 (member-part false) words a ps s (q .end) l₃ l₄ (q .count) r
       → length l₁ ≡ length l₀ → length l₂ ≡ length l₀ → length l₃ ≡ length l₀ → Reaches 0 (kind-part 5) words a ps s 0 l₀ l₄ n r
   unfolding BodyFields depth lambda-depth words flatten
@@ -174,7 +174,7 @@ module _ {a : Bytes} {ps : List ℕ} {s : Bytes} {v : LambdaView} {l₀ l₁ l�
           let j = told h t (u .0 .4 .0) (first-of (o .there)) in
           let p = close-on (q .end) (j .0) o in
           let k = i .tells (p .moved) b (u .0 .5, omega (arith, u .1), omega (arith, u .2)) (first-of (p .there)) in
-          let m = g ca (u .0 .2 .0) (x .sees l w ca cs t b u z .binders) in
+          let m = g ca (u .0 .2 .0) (x .sees l w ca cs t b u z .capture-args) in
           let ns = names-then (omega (arith, i .room)) m (names-then (omega (arith, i .room)) (j .1) (k .1)) in
           (omega (arith, k .0, p .whole, length-append (body-bytes b) []), names-then (omega (arith, i .room)) f ns)
 

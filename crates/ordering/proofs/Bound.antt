@@ -24,7 +24,7 @@ use Rattle.records.specs.declared.LetView.{LetView}
 use Rattle.records.proofs.Lists.{list-count, list-bytes, list-valid}
 use Rattle.records.proofs.Views.{opened, first-of, rest-of, step}
 use Rattle.ordering.specs.declared.Listed.{Listed}
-use Rattle.ordering.specs.Assign.{nothing, need-limit, body-of, body-at, all-needs, Bound, BindingNames, FindsNames, Collectable, Let, Ordered}
+use Rattle.ordering.specs.Assign.{no-binding, need-limit, body-of, body-at, all-needs, Bound, BindingNames, FindsNames, Collectable, Let, OrdersBindings}
 use Rattle.ordering.specs.Provisions.{Provisions, Added, ListsNames}
 use Rattle.ordering.specs.Listing.{all-words}
 use Rattle.ordering.specs.Needs.{binding-limit, Starts, outcome-of}
@@ -109,31 +109,31 @@ each-at P (x ∷ xs) (suc j) d e lt = each-at P xs j d (e .1) (omega arith)
 
 module _ {s : Bytes} {given bodies : List ℕ} {at n j : ℕ} {bs : List Binding} (f : Found s given bodies at n j bs) (v : Each ValidBinding bs) (lt : j < length bs) where
   -- the next binding stands at `at`
-  next-at : At s at (binding-bytes (getD bs j nothing) ++ joined binding-bytes (drop (suc j) bs))
+  next-at : At s at (binding-bytes (getD bs j no-binding) ++ joined binding-bytes (drop (suc j) bs))
   unfolding joined
-  next-at = rw (drop-cons bs j nothing lt) at (f .rest)
+  next-at = rw (drop-cons bs j no-binding lt) at (f .rest)
 
   -- there is room for its names
-  next-room : (l nl : Loc) (p : Pattern) (b : Body) → getD bs j nothing ≡ BB l nl p b → length s ≤ most-longest → n + 1 + length (pattern-provides p) ≤ need-limit
+  next-room : (l nl : Loc) (p : Pattern) (b : Body) → getD bs j no-binding ≡ BB l nl p b → length s ≤ most-longest → n + 1 + length (pattern-provides p) ≤ need-limit
   next-room l nl p b e le =
-      let q : ValidBinding (BB l nl p b) = rw e at (each-at ValidBinding bs j nothing v lt) in
+      let q : ValidBinding (BB l nl p b) = rw e at (each-at ValidBinding bs j no-binding v lt) in
       let a : At s at (binding-bytes (BB l nl p b) ++ joined binding-bytes (drop (suc j) bs)) = rw e at next-at in
       omega (arith, few-entries l nl p b (q .0), at-left (binding-bytes (BB l nl p b)) (joined binding-bytes (drop (suc j) bs)) a .fits, f .few)
 
   -- one binding more
-  found-next : {given′ : List ℕ} {r : Listed} {at′ : ℕ} (l nl : Loc) (p : Pattern) (b : Body) → getD bs j nothing ≡ BB l nl p b → j < length bodies
+  found-next : {given′ : List ℕ} {r : Listed} {at′ : ℕ} (l nl : Loc) (p : Pattern) (b : Body) → getD bs j no-binding ≡ BB l nl p b → j < length bodies
       → BindingNames s given given′ n r p b (at + length (binding-bytes (BB l nl p b))) → Past (family-part a-body) s (r .end) at′
       → Found s given′ (set bodies j (r .end)) at′ (r .count) (j + 1) bs
   unfolding BindingFields Provisions body-of binding-depth binding-lambda-depth
   found-next {given′} {r} {at′} l nl p b e fits g y =
-      let q : ValidBinding (BB l nl p b) = rw e at (each-at ValidBinding bs j nothing v lt) in
+      let q : ValidBinding (BB l nl p b) = rw e at (each-at ValidBinding bs j no-binding v lt) in
       let a : At s at (binding-bytes (BB l nl p b) ++ joined binding-bytes (drop (suc j) bs)) = rw e at next-at in
       let one : j + 1 ≡ suc j = omega arith in
       let w : at′ ≡ r .end + length (body-bytes b) = y .past b (q .0 .3, omega (arith, q .1), omega (arith, q .2)) (g .body) in
       let end : at′ ≡ at + length (binding-bytes (BB l nl p b)) = w ∙ g .ends in
       let entries : Provisions s (0 ∷ g .entries) (BB l nl p b ∷ []) = (g .entries, [], ap (λ (zs : List ℕ). 0 ∷ zs) (sym (append-nil (g .entries))), g .listed, refl) in
       let more : Provisions s (take n given ++ (0 ∷ g .entries)) (take j bs ++ (BB l nl p b ∷ [])) = provisions-append s (take n given) (0 ∷ g .entries) (take j bs) (BB l nl p b ∷ []) (f .provisions) entries in
-      let taken : take (suc j) bs ≡ take j bs ++ (BB l nl p b ∷ []) = take-suc bs j nothing lt ∙ ap (λ (x : Binding). take j bs ++ (x ∷ [])) e in
+      let taken : take (suc j) bs ≡ take j bs ++ (BB l nl p b ∷ []) = take-suc bs j no-binding lt ∙ ap (λ (x : Binding). take j bs ++ (x ∷ [])) e in
       record {
         few = omega (arith, f .few, end, few-entries l nl p b (q .0), g .added .counted, entries-length s (g .entries) (pattern-provides p) (g .listed));
         provisions = rw (one, taken, added-is (0 ∷ g .entries) (g .added)) more;
@@ -149,30 +149,30 @@ module _ {s : Bytes} {given bodies : List ℕ} {at n j : ℕ} {bs : List Binding
   -- the same, from what `binding_names` promises of any binding
   module _ (top : length s ≤ most-longest) (size : length given ≡ need-limit) where
     pub next-few : n < length given
-    next-few = go (getD bs j nothing) refl
+    next-few = go (getD bs j no-binding) refl
       where
-        go : (b : Binding) → getD bs j nothing ≡ b → n < length given
+        go : (b : Binding) → getD bs j no-binding ≡ b → n < length given
         go (BB l nl p b) e = omega (arith, next-room l nl p b e top)
 
     module _ {given′ : List ℕ} {r : Listed}
         (g : (l nl : Loc) (p : Pattern) (b : Body) → ValidBinding (BB l nl p b) → At s at (binding-bytes (BB l nl p b)) → n + 1 + length (pattern-provides p) ≤ length given
         → BindingNames s given given′ n r p b (at + length (binding-bytes (BB l nl p b)))) where
-      names-of : (l nl : Loc) (p : Pattern) (b : Body) → getD bs j nothing ≡ BB l nl p b → BindingNames s given given′ n r p b (at + length (binding-bytes (BB l nl p b)))
+      names-of : (l nl : Loc) (p : Pattern) (b : Body) → getD bs j no-binding ≡ BB l nl p b → BindingNames s given given′ n r p b (at + length (binding-bytes (BB l nl p b)))
       names-of l nl p b e =
-          let q : ValidBinding (BB l nl p b) = rw e at (each-at ValidBinding bs j nothing v lt) in
+          let q : ValidBinding (BB l nl p b) = rw e at (each-at ValidBinding bs j no-binding v lt) in
           let a : At s at (binding-bytes (BB l nl p b) ++ joined binding-bytes (drop (suc j) bs)) = rw e at next-at in
           g l nl p b q (at-left (binding-bytes (BB l nl p b)) (joined binding-bytes (drop (suc j) bs)) a) (omega (arith, next-room l nl p b e top))
 
       pub next-body : r .end ≤ length s
-      next-body = go (getD bs j nothing) refl
+      next-body = go (getD bs j no-binding) refl
         where
-          go : (b : Binding) → getD bs j nothing ≡ b → r .end ≤ length s
+          go : (b : Binding) → getD bs j no-binding ≡ b → r .end ≤ length s
           go (BB l nl p b) e = omega (arith, names-of l nl p b e .body .fits)
 
       pub found-step : {at′ : ℕ} → j < length bodies → Past (family-part a-body) s (r .end) at′ → Found s given′ (set bodies j (r .end)) at′ (r .count) (j + 1) bs
-      found-step {at′} fits y = go (getD bs j nothing) refl
+      found-step {at′} fits y = go (getD bs j no-binding) refl
         where
-          go : (b : Binding) → getD bs j nothing ≡ b → Found s given′ (set bodies j (r .end)) at′ (r .count) (j + 1) bs
+          go : (b : Binding) → getD bs j no-binding ≡ b → Found s given′ (set bodies j (r .end)) at′ (r .count) (j + 1) bs
           go (BB l nl p b) e = found-next l nl p b e fits (names-of l nl p b e) y
 
 -- no binding is behind
@@ -187,7 +187,7 @@ unfolding BindingFields body-of binding-depth binding-lambda-depth
 found-all {s} {given} {bodies} {at} {n} {j} {bs} f v le top size = record {
   few = omega (arith, f .few);
   provisions = rw (take-all j bs le) at (f .provisions);
-  bodies-at = record { valid = λ k h. body-valid (getD bs k nothing) (each-at ValidBinding bs k nothing v h); there = λ k h. f .there k (omega arith) };
+  bodies-at = record { valid = λ k h. body-valid (getD bs k no-binding) (each-at ValidBinding bs k no-binding v h); there = λ k h. f .there k (omega arith) };
 }
   where
     body-valid : (b : Binding) → ValidBinding b → ValidBody (body-of b)
@@ -239,7 +239,7 @@ starts-of {needs} {starts} n e h = subst (λ (k : ℕ). Starts k needs starts) e
 
 -- an order in an array that is longer than it
 pub ordered-in : {s : Bytes} {at count placed turns : ℕ} {bs : List Binding} (row zeros : List ℕ) → Bound s at count bs → length row ≡ count → length zeros ≡ binding-limit → count ≤ binding-limit → placed ≤ length row
-    → (toposort-assign-bindings bs ≡ outcome-of row placed) × (turns ≡ rounds (items bs)) → Ordered bs (record { row = row ++ drop count zeros; count = count; placed = placed; rounds = turns })
+    → (toposort-assign-bindings bs ≡ outcome-of row placed) × (turns ≡ rounds (items bs)) → OrdersBindings bs (record { row = row ++ drop count zeros; count = count; placed = placed; rounds = turns })
 unfolding toposort-assign-bindings
 ordered-in {count = count} {placed} {bs = bs} row zeros b e z le h o =
     let t : take count (row ++ drop count zeros) ≡ row = take-at row (drop count zeros) count e in

@@ -15,7 +15,7 @@ use Rattle.records.specs.Records.{Binding, BB}
 use Rattle.records.specs.declared.Family.the-variants.{Body as a-body}
 use Rattle.records.specs.Parts.{family-part}
 use Rattle.ordering.specs.declared.Listed.{Listed}
-use Rattle.ordering.specs.Assign.{nothing, body-of, body-at, BodiesAt, all-needs}
+use Rattle.ordering.specs.Assign.{no-binding, body-of, body-at, BodiesAt, all-needs}
 use Rattle.ordering.specs.Items.{Item, item-at, any, keep, gives, needed}
 use Rattle.ordering.specs.Listing.{Lists, all-words}
 use Rattle.ordering.specs.Provisions.{Entries, Provisions, Given, listed-bindings, places, Added}
@@ -43,7 +43,7 @@ all-one bs b = ap (needs-of (items bs)) (append-nil (words (body-of b)))
 
 all-next : (bs : List Binding) (j : ℕ) → j < length bs → all-needs bs (take (suc j) bs) ≡ all-needs bs (take j bs) ++ own-needs bs j
 all-next bs j lt =
-    ap (all-needs bs) (take-suc bs j nothing lt) ∙ all-append bs (take j bs) (getD bs j nothing ∷ []) ∙ ap (λ (zs : List ℕ). all-needs bs (take j bs) ++ zs) (all-one bs (getD bs j nothing))
+    ap (all-needs bs) (take-suc bs j no-binding lt) ∙ all-append bs (take j bs) (getD bs j no-binding ∷ []) ∙ ap (λ (zs : List ℕ). all-needs bs (take j bs) ++ zs) (all-one bs (getD bs j no-binding))
 
 -- all of them, before and after the first j
 all-split : (bs : List Binding) (j : ℕ) → all-needs bs bs ≡ all-needs bs (take j bs) ++ all-needs bs (drop j bs)
@@ -103,7 +103,7 @@ pub items-length : (bs : List Binding) → length (items bs) ≡ length bs
 unfolding items
 items-length bs = length-map bs item
 
-item-of : (bs : List Binding) (i : ℕ) → i < length bs → item-at (map item bs) i ≡ item (getD bs i nothing)
+item-of : (bs : List Binding) (i : ℕ) → i < length bs → item-at (map item bs) i ≡ item (getD bs i no-binding)
 item-of [] i lt = absurd (omega arith)
 item-of (b ∷ bs) zero lt = refl
 item-of (b ∷ bs) (suc i) lt = item-of bs i (omega arith)
@@ -111,7 +111,7 @@ item-of (b ∷ bs) (suc i) lt = item-of bs i (omega arith)
 own-is : (bs : List Binding) (i : ℕ) → i < length bs → map (providers (items bs)) (needed (items bs) i) ≡ own-needs bs i
 unfolding needed needs-of items
 own-is bs i lt =
-    ap (λ (xs : List Bytes). map (providers (items bs)) (keep (λ x. any (gives x) (items bs)) xs)) (ap (λ (x : Item). x .needs) (item-of bs i lt) ∙ item-needs (getD bs i nothing))
+    ap (λ (xs : List Bytes). map (providers (items bs)) (keep (λ x. any (gives x) (items bs)) xs)) (ap (λ (x : Item). x .needs) (item-of bs i lt) ∙ item-needs (getD bs i no-binding))
 
 -- all are behind
 module _ {needs starts : List ℕ} {n j : ℕ} {bs : List Binding} (f : Collected needs starts n j bs) (all : j ≡ length bs) (room : j < length starts) where

@@ -1,4 +1,4 @@
-pub mod Answers
+pub mod OrderAnswers
 mod Bits
 mod Bodies
 pub mod Bound

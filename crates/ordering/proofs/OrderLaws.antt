@@ -6,7 +6,7 @@ use native.Mathlib.Omega.{arith}
 use borrow.Author.Tests.{le-leb, lt-leb, le-ltb, lt-ltb}
 use lib.ListN.{length, take, drop}
 use lib.Seq.{length-take-le}
-use Rattle.names.specs.Answers.{Result, refused-answer, accepted-answer}
+use Rattle.names.specs.CallAnswer.{Result, refused-answer, accepted-answer}
 use Rattle.names.specs.Names.{Bytes, number-of}
 use Rattle.names.specs.Refusals.{place-at, refusing, placeless}
 use Rattle.names.specs.declared.Place.{Place}
@@ -25,7 +25,7 @@ use Rattle.records.proofs.Accepted.{assign-format, opened-valid}
 use Rattle.records.proofs.Opened.{OpenedFrom, start}
 use Rattle.records.specs.Views.{SeesLet}
 use Rattle.records.specs.declared.LetView.{LetView}
-use Rattle.ordering.specs.Assign.{Let, Ordered}
+use Rattle.ordering.specs.Assign.{Let, OrdersBindings}
 use Rattle.ordering.specs.Needs.{outcome-of}
 use Rattle.ordering.specs.OrderCall.{bindings-of, let-loc, stuck-answer, order-answer, order-of, order-call}
 use Rattle.ordering.specs.Toposort.{ordered, deadlock, rounds}
@@ -61,7 +61,7 @@ module _ (c : ℕ) (buffer : Bytes) (k : Kind) (l : Loc) (w h : Bytes) (bs : Bin
   order-stuck is le e = rw (le-leb (length (list-of bs)) (length buffer) le, e, order-of)
 
 -- what an order in an array says of the bindings
-module _ {bs : List Binding} {o : Order} (g : Ordered bs o) where
+module _ {bs : List Binding} {o : Order} (g : OrdersBindings bs o) where
   taken : length (take (o .count) (o .row)) ≡ o .count
   taken = length-take-le (o .count) (o .row) (omega (arith, g .row, g .few))
 
@@ -93,7 +93,7 @@ module _ {s : Bytes} {v : LetView} {k : Kind} {l : Loc} {w h : Bytes} {bs : Bind
   loc-is = ap number-of (at-is (v .loc) loc-width refl (sym (t .valid .0 .0 .width)) loc-at)
 
   -- the answers are those of the definition
-  module _ (c : ℕ) (buffer : Bytes) {o : Order} {a : Result} (g : Ordered (list-of bs) o) (fits : v .count ≤ length buffer) where
+  module _ (c : ℕ) (buffer : Bytes) {o : Order} {a : Result} (g : OrdersBindings (list-of bs) o) (fits : v .count ≤ length buffer) where
     pub answer-stuck : {place : Place} → o .placed < o .count → place ≡ place-at (number-of (take loc-width (drop (v .loc) s))) → a ≡ stuck-answer c place buffer (take (o .count - o .placed) (drop (o .placed) (o .row)))
         → a ≡ order-of c buffer (BL k l w h bs b)
     answer-stuck lt p e =

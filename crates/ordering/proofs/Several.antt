@@ -104,11 +104,11 @@ module _ {p : Part} {names : p .0 → List Bytes} {a : Bytes} {ps : List ℕ} {s
 
 -- the loop over them: of every list of m trees that stands at a place
 module _ (p : Part) (names : p .0 → List Bytes) (a : Bytes) (ps : List ℕ) (s : Bytes) (at m : ℕ) (before : List ℕ) (n : ℕ) where
-  abbrev pub Goes : ℕ → List ℕ → Listed → Type 0
-  Goes i after r = 1 ≤ at → (ts : List (p .0)) → list-part p m .2 ts → At s at (joined (p .1) ts) → Going p names a ps s i m (at + length (joined (p .1) ts)) (all-words names ts) before after n r
+  abbrev pub ListsSoFar : ℕ → List ℕ → Listed → Type 0
+  ListsSoFar i after r = 1 ≤ at → (ts : List (p .0)) → list-part p m .2 ts → At s at (joined (p .1) ts) → Going p names a ps s i m (at + length (joined (p .1) ts)) (all-words names ts) before after n r
 
 module _ {p : Part} {names : p .0 → List Bytes} {a : Bytes} {ps : List ℕ} {s : Bytes} {at m : ℕ} {before : List ℕ} {n : ℕ} where
-  pub goes-first : n ≤ length before → Goes p names a ps s at m before n 0 before (record { count = n; end = at })
+  pub goes-first : n ≤ length before → ListsSoFar p names a ps s at m before n 0 before (record { count = n; end = at })
   goes-first h z ts v k = record {
     rest = ts;
     done = [];
@@ -122,9 +122,9 @@ module _ {p : Part} {names : p .0 → List Bytes} {a : Bytes} {ps : List ℕ} {s
   }
 
   pub goes-more : {i : ℕ} {l l′ : List ℕ} {r r′ : Listed} → i < m → Reaches 1 p names a ps s (r .end) l l′ (r .count) r′ → length l ≡ length before
-      → Goes p names a ps s at m before n i l r → Goes p names a ps s at m before n (i + 1) l′ r′
+      → ListsSoFar p names a ps s at m before n i l r → ListsSoFar p names a ps s at m before n (i + 1) l′ r′
   goes-more q f e g z ts v k = going-more q f e (g z ts v k)
 
-  pub goes-end : {i : ℕ} {l : List ℕ} {r : Listed} → m ≤ i → r .end ≤ length s → r .count ≤ length before → Goes p names a ps s at m before n i l r
+  pub goes-end : {i : ℕ} {l : List ℕ} {r : Listed} → m ≤ i → r .end ≤ length s → r .count ≤ length before → ListsSoFar p names a ps s at m before n i l r
       → Reaches 1 (list-part p m) (all-words names) a ps s at before l n r
   goes-end q w h g = record { within = w; room = h; tells = λ z ts v k. going-end q (g z ts v k) }

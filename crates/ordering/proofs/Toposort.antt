@@ -13,7 +13,7 @@ use lib.ListN.{length, getD, take, drop, length-take, length-drop}
 use lib.Seq.{take-all, getD-take, getD-drop}
 use borrow.Author.Tests.{le-ltb}
 use Rattle.ordering.specs.Items.{Item}
-use Rattle.ordering.specs.Toposort.{Row, start, picked, turn, is-empty, Outcome, ordered, deadlock, turns, toposort}
+use Rattle.ordering.specs.Toposort.{Row, start, picked, turn, is-empty, Toposorted, ordered, deadlock, turns, toposort}
 use Rattle.ordering.specs.Lawful.{_is-in_, OfSome, Lawful, Full, Stuck}
 use Rattle.ordering.specs.Needs.{Means}
 use Rattle.ordering.proofs.Lists.{by-cond, in-at, at-in, at-in-take, in-take-at, at-in-drop, in-drop-at}
@@ -28,11 +28,11 @@ some-in : (l : List ℕ) → T (not (is-empty l)) → 0 < length l
 some-in [] t = absurd t
 some-in (x ∷ xs) t = omega arith
 
-cond-left : {x x′ : Outcome} (y : Outcome) (b : Bool) → (T b → x ≡ x′) → cond b x y ≡ cond b x′ y
+cond-left : {x x′ : Toposorted} (y : Toposorted) (b : Bool) → (T b → x ≡ x′) → cond b x y ≡ cond b x′ y
 cond-left y true h = h tt
 cond-left y false h = refl
 
-cond-right : (x : Outcome) {y y′ : Outcome} (b : Bool) → (T (not b) → y ≡ y′) → cond b x y ≡ cond b x y′
+cond-right : (x : Toposorted) {y y′ : Toposorted} (b : Bool) → (T (not b) → y ≡ y′) → cond b x y ≡ cond b x y′
 cond-right x true h = refl
 cond-right x false h = h tt
 
@@ -114,7 +114,7 @@ module _ (bs : List Item) where
       }
 
   -- what is owed of an answer
-  abbrev Owed : Outcome → Type 0
+  abbrev Owed : Toposorted → Type 0
   Owed (ordered o) = Full bs o × (length o ≡ length bs)
   Owed (deadlock l) = Left l
 
@@ -186,7 +186,7 @@ module _ (bs : List Item) where
   unfolding Means
   means = go (toposort bs) refl
     where
-      go : (a : Outcome) → toposort bs ≡ a → Means bs a
+      go : (a : Toposorted) → toposort bs ≡ a → Means bs a
       go (ordered o) e = sound o e
       go (deadlock l) e = (complete l e, stuck l e, stuck-once l e)
 
@@ -194,6 +194,6 @@ module _ (bs : List Item) where
   pub found : ((o : List ℕ) × (toposort bs ≡ ordered o)) ↔ ((o : List ℕ) × Full bs o)
   found = (λ f. (f .0, sound (f .0) (f .1)), λ f. go f (toposort bs) refl)
     where
-      go : (o : List ℕ) × Full bs o → (a : Outcome) → toposort bs ≡ a → (o : List ℕ) × (toposort bs ≡ ordered o)
+      go : (o : List ℕ) × Full bs o → (a : Toposorted) → toposort bs ≡ a → (o : List ℕ) × (toposort bs ≡ ordered o)
       go f (ordered o) e = (o, e)
       go f (deadlock l) e = absurd (complete l e (f .0) (f .1))

@@ -27,12 +27,12 @@ unfoldable pub body-of : Binding → Body
 body-of (BB l nl p b) = b
 
 -- what `getD` gives for an index past the last binding
-abbrev pub nothing : Binding
-nothing = BB [] [] (Name []) (BV (SN []))
+abbrev pub no-binding : Binding
+no-binding = BB [] [] (Name []) (BV (SN []))
 
 -- the body of the binding with index k
 abbrev pub body-at : List Binding → ℕ → Body
-body-at bs k = body-of (getD bs k nothing)
+body-at bs k = body-of (getD bs k no-binding)
 
 -- bindings stand one after the other in s
 pub record Bound (s : Bytes) (at n : ℕ) (bs : List Binding) : Type 0 where
@@ -76,7 +76,7 @@ pub record Let (s : Bytes) (k : Kind) (l : Loc) (w h : Bytes) (bs : Bindings) (b
   pub there : At s 0 (body-bytes (BL k l w h bs b))
 
 -- the order of bindings, or their deadlock, and what it means
-pub record Ordered (bs : List Binding) (r : Order) : Type 0 where
+pub record OrdersBindings (bs : List Binding) (r : Order) : Type 0 where
   pub count : r .count ≡ length bs
   pub few : r .count ≤ binding-limit
   pub row : length (r .row) ≡ binding-limit

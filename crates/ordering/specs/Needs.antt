@@ -12,7 +12,7 @@ use Rattle.names.specs.Segments.{At}
 use Rattle.records.specs.Limits.{count-limit}
 use Rattle.ordering.specs.Items.{Item, any, keep, gives, needed}
 use Rattle.ordering.specs.Lawful.{_is-in_, OfSome, Full, Stuck}
-use Rattle.ordering.specs.Toposort.{Outcome, ordered, deadlock}
+use Rattle.ordering.specs.Toposort.{Toposorted, ordered, deadlock}
 
 -- the most bindings of an assign
 abbrev pub binding-limit : ℕ
@@ -54,10 +54,10 @@ pub record TurnStart (bs : List Item) (needs starts row : List ℕ) (placed done
   pub marked : done ≡ bits (marks (length row) (take placed row))
 
 -- what a row says of which so many are placed
-unfoldable pub outcome-of : List ℕ → ℕ → Outcome
+unfoldable pub outcome-of : List ℕ → ℕ → Toposorted
 outcome-of row placed = cond (ltb placed (length row)) (deadlock (drop placed row)) (ordered row)
 
 -- what an outcome means: a full lawful order; or none, and just the stuck ones, each once
-unfoldable pub Means : List Item → Outcome → Type 0
+unfoldable pub Means : List Item → Toposorted → Type 0
 Means bs (ordered o) = Full bs o
 Means bs (deadlock l) = ((o : List ℕ) → ¬ Full bs o) × ((i : ℕ) → (i is-in l) ↔ Stuck bs i) × OfSome (length bs) l

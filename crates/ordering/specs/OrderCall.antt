@@ -7,7 +7,7 @@ use mathlib.Core.Path.{_≡_}
 use Prim.Native.Nat.{ℕ, _≤_}
 use lib.Dec.{leb}
 use lib.ListN.{length}
-use Rattle.names.specs.Answers.{Result, written, refused-answer, accepted-answer}
+use Rattle.names.specs.CallAnswer.{Result, written, refused-answer, accepted-answer}
 use Rattle.names.specs.Names.{Bytes}
 use Rattle.names.specs.Refusals.{place-at, refusing, placeless}
 use Rattle.names.specs.declared.Place.{Place}

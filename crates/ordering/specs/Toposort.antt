@@ -44,9 +44,9 @@ abbrev pub turn : List Item → Row → Row
 turn bs r = foldl place r (picked bs r)
 
 -- the order; or, at a deadlock, the indices that are not placed
-pub data Outcome : Type 0 where
-  ordered : List ℕ → Outcome
-  deadlock : List ℕ → Outcome
+pub data Toposorted : Type 0 where
+  ordered : List ℕ → Toposorted
+  deadlock : List ℕ → Toposorted
 
 -- a list with no element
 abbrev pub is-empty : List ℕ → Bool
@@ -54,15 +54,15 @@ is-empty [] = true
 is-empty (x ∷ xs) = false
 
 -- at most so many turns: with all placed, the order; with no turn left, or one that picks nothing, a deadlock
-abbrev pub turns : List Item → ℕ → Row → Outcome
+abbrev pub turns : List Item → ℕ → Row → Toposorted
 turns bs zero r = cond (ltb (r .placed) (length (r .row))) (deadlock (drop (r .placed) (r .row))) (ordered (r .row))
 turns bs (suc n) r =
-    let more : Outcome = turns bs n (turn bs r) in
-    let go : Outcome = cond (is-empty (picked bs r)) (deadlock (drop (r .placed) (r .row))) more in
+    let more : Toposorted = turns bs n (turn bs r) in
+    let go : Toposorted = cond (is-empty (picked bs r)) (deadlock (drop (r .placed) (r .row))) more in
     cond (ltb (r .placed) (length (r .row))) go (ordered (r .row))
 
 -- each turn but the last places one at least, so as many turns as there are bindings are enough (`enough` and `never-out` of proofs/Toposort.antt)
-unfoldable pub toposort : List Item → Outcome
+unfoldable pub toposort : List Item → Toposorted
 toposort bs = turns bs (length bs) (start (length bs))
 
 -- the turns that place something, of at most so many

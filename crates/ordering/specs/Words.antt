@@ -7,7 +7,7 @@ use Rattle.names.specs.Names.{Bytes, ascii}
 use Rattle.records.specs.Records.{Sexp, SN, SC, SI, SQ, SA, Kind, Parallel, Sequential, Assign, Pattern, Name, Complex, Body, BL, BQ, BV, BC, BM, BF, Bodies, []ᵇ, _∷ᵇ_, Tail, no-tail, tail, Binding, BB, Bindings, []ᵍ, _∷ᵍ_}
 use Rattle.records.specs.Sexps.{truthy}
 use Rattle.ordering.specs.Items.{Item}
-use Rattle.ordering.specs.Toposort.{Outcome, toposort}
+use Rattle.ordering.specs.Toposort.{Toposorted, toposort}
 
 -- `make_provides_set`: the names that an S record provides
 unfoldable pub make-provides-set : Sexp → List Bytes
@@ -70,7 +70,7 @@ unfoldable pub items : List Binding → List Item
 items bs = map item bs
 
 -- `toposort_assign_bindings`: the exact order of an assign's bindings, or a deadlock
-unfoldable pub toposort-assign-bindings : List Binding → Outcome
+unfoldable pub toposort-assign-bindings : List Binding → Toposorted
 toposort-assign-bindings bs = toposort (items bs)
 
 -- unfolds with every definition of this file

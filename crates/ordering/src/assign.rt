@@ -22,7 +22,7 @@ ghost use Rattle.names.specs.Segments.{At};
 ghost use Rattle.records.specs.Limits.{most-longest};
 ghost use Rattle.records.specs.Records.{Loc, Kind, Pattern, Body, Binding, BB, binding-bytes, Bindings, list-of};
 ghost use Rattle.records.specs.Parts.{ValidBinding};
-ghost use Rattle.ordering.specs.Assign.{need-limit, Bound, BindingNames, FindsNames, Collectable, Let, Ordered};
+ghost use Rattle.ordering.specs.Assign.{need-limit, Bound, BindingNames, FindsNames, Collectable, Let, OrdersBindings};
 ghost use Rattle.ordering.specs.Needs.{binding-limit, NeedsAt, Starts, outcome-of};
 ghost use Rattle.ordering.specs.Toposort.{rounds};
 ghost use Rattle.ordering.specs.Words.{pattern-provides, items, toposort-assign-bindings};
@@ -103,7 +103,7 @@ fn order_bindings(
 pub fn toposort_assign_bindings(s: &[u8]) -> Order
     requires { ⌜ length (now s) ≤ most-longest ⌝ }
     requires { ⌜ ((k : Kind) × (l : Loc) × (w : Bytes) × (h : Bytes) × (bs : Bindings) × (b : Body) × Let (now s) k l w h bs b) ⌝ }
-    ensures { λ r. ⌜ ((k : Kind) (l : Loc) (w h : Bytes) (bs : Bindings) (b : Body) → Let (now (s .entry)) k l w h bs b → Ordered (list-of bs) r) ⌝ }
+    ensures { λ r. ⌜ ((k : Kind) (l : Loc) (w h : Bytes) (bs : Bindings) (b : Body) → Let (now (s .entry)) k l w h bs b → OrdersBindings (list-of bs) r) ⌝ }
 {
     let v = let_view(s);
     let count = v.count as usize;

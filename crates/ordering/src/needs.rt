@@ -184,13 +184,13 @@ fn lambda_needs(a: &[u8], given: &[usize], s: &[u8], needs: &mut [u64], n: usize
 {
     let v = lambda_view(s);
     let c = word(a, given, b"lambda", needs, n);
-    let b = binder_needs(a, given, s, v.binders, needs, c);
+    let b = capture_needs(a, given, s, v.capture_args, needs, c);
     let r = child_sexp(a, given, s, v.args, needs, b);
     child(a, given, s, false, r.end, needs, r.count)
 }
 
 // The names of the capture args, after `&`.
-fn binder_needs(
+fn capture_needs(
     a: &[u8],
     given: &[usize],
     s: &[u8],

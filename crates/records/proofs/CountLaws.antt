@@ -17,7 +17,7 @@ use Rattle.records.specs.Scan.{mark-index, body-marks, helper-marks}
 use Rattle.records.specs.Valid.{SexpFields, cons-depth, ValidPattern, BodyFields, BodiesFields, TailFields, BindingFields, BindingsFields, HelperFields, HelpersFields, FormFields, lambda-depth, bodies-lambda-depth, tail-lambda-depth, binding-lambda-depth, bindings-lambda-depth, helper-lambda-depth, helpers-lambda-depth, form-lambda-depth}
 use Rattle.records.proofs.RecordLaws.{index-bound}
 use Rattle.records.specs.declared.Counted.{Counted}
-use Rattle.records.specs.Count.{sexp-records, pattern-records, body-records, bodies-records, tail-records, binding-records, bindings-records, helper-records, helpers-records, form-records, total, no-records, many-part, tail-part, named-part, Counts, Begun, Adds}
+use Rattle.records.specs.Count.{sexp-records, pattern-records, body-records, bodies-records, tail-records, binding-records, bindings-records, helper-records, helpers-records, form-records, total, no-records, many-part, tail-part, named-part, Counts, Begun, CountsOn}
 use Rattle.records.specs.Parts.{Part, family-part, sexp-part, fixed-part, name-part, raw-part, keyword-part, hint-part, pattern-part, Past}
 use Rattle.records.specs.Views.{SexpAt, nil-at, pair-at, integer-at, text-at, atom-at, SeesSexp}
 use Rattle.records.specs.declared.NameView.{NameView}
@@ -72,7 +72,7 @@ unfolding byte
 tag-is b k bs a = byte-is b k (at-left (k ∷ []) bs a)
 
 module _ {s : Bytes} {c : Counted} {at tag : ℕ} (b : ByteAt s (c .end) tag) (x : Past (fixed-part 1) s (c .end) at) where
-  pub name-adds : {end : ℕ} → Begun s c → tag ≡ 0 → Past name-part s at end → Adds pattern-part pattern-records s c (counted (c .count) end)
+  pub name-adds : {end : ℕ} → Begun s c → tag ≡ 0 → Past name-part s at end → CountsOn pattern-part pattern-records s c (counted (c .count) end)
   unfolding pattern-field ValidPattern pattern-records
   name-adds {end} g z y = record { onward = omega (arith, x .onward, y .onward); within = y .within; few = omega (arith, g .few, x .onward, y .onward); adds = go }
     where
@@ -80,7 +80,7 @@ module _ {s : Bytes} {c : Counted} {at tag : ℕ} (b : ByteAt s (c .end) tag) (x
       go (Name n) v a = then {c = c} x (past-adds (begun-past g x) y) (0 ∷ []) n refl v a
       go (Complex e) v a = absurd (omega (arith, tag-is b 1 (sexp-bytes e) a))
 
-  pub complex-adds : {r : Counted} → (tag ≡ 0 → ⊥) → Adds sexp-part sexp-records s (counted (c .count) at) r → Adds pattern-part pattern-records s c r
+  pub complex-adds : {r : Counted} → (tag ≡ 0 → ⊥) → CountsOn sexp-part sexp-records s (counted (c .count) at) r → CountsOn pattern-part pattern-records s c r
   unfolding pattern-field ValidPattern pattern-records
   complex-adds {r} z y = record { onward = omega (arith, x .onward, y .onward); within = y .within; few = y .few; adds = go }
     where
@@ -88,7 +88,7 @@ module _ {s : Bytes} {c : Counted} {at tag : ℕ} (b : ByteAt s (c .end) tag) (x
       go (Name n) v a = absurd (z (tag-is b 0 (name-field n) a))
       go (Complex e) v a = then {c = c} x y (1 ∷ []) e refl v a
 
-  pub no-tail-adds : Begun s c → tag ≡ 0 → Adds tail-part tail-records s c (counted (c .count) at)
+  pub no-tail-adds : Begun s c → tag ≡ 0 → CountsOn tail-part tail-records s c (counted (c .count) at)
   unfolding tail-bytes byte TailFields tail-records
   no-tail-adds g z = record { onward = x .onward; within = x .within; few = omega (arith, g .few, x .onward); adds = go }
     where
@@ -96,7 +96,7 @@ module _ {s : Bytes} {c : Counted} {at tag : ℕ} (b : ByteAt s (c .end) tag) (x
       go no-tail v a = (x .past (0 ∷ []) refl a, omega arith)
       go (tail e) v a = absurd (omega (arith, tag-is b 1 (body-bytes e) a))
 
-  pub tail-adds : {r : Counted} → (tag ≡ 0 → ⊥) → Adds (family-part a-body) body-records s (counted (c .count) at) r → Adds tail-part tail-records s c r
+  pub tail-adds : {r : Counted} → (tag ≡ 0 → ⊥) → CountsOn (family-part a-body) body-records s (counted (c .count) at) r → CountsOn tail-part tail-records s c r
   unfolding tail-bytes byte TailFields tail-records tail-depth tail-lambda-depth
   tail-adds {r} z y = record { onward = omega (arith, x .onward, y .onward); within = y .within; few = y .few; adds = go }
     where
@@ -105,7 +105,7 @@ module _ {s : Bytes} {c : Counted} {at tag : ℕ} (b : ByteAt s (c .end) tag) (x
       go (tail e) v a = then {c = c} x y (1 ∷ []) e refl v a
 
 -- a name and R
-pub named-adds : {s : Bytes} {c : Counted} {raw end : ℕ} → Begun s c → Past name-part s (c .end) raw → Past raw-part s raw end → Adds named-part no-records s c (counted (c .count) end)
+pub named-adds : {s : Bytes} {c : Counted} {raw end : ℕ} → Begun s c → Past name-part s (c .end) raw → Past raw-part s raw end → CountsOn named-part no-records s c (counted (c .count) end)
 named-adds {c} {raw} g x y = record {
   onward = omega (arith, x .onward, y .onward);
   within = y .within;
@@ -168,7 +168,7 @@ module _ {s : Bytes} where
       go text (text-at h) = (h .past, refl)
       go name (atom-at h) = (h .past, refl)
 
-  pub pair-counts : {p : ℕ} {c r : Counted} → SeesSexp s (Pair p) → Adds sexp-part sexp-records s (counted 1 p) c → Adds sexp-part sexp-records s c r → Counts sexp-part sexp-records s r
+  pub pair-counts : {p : ℕ} {c r : Counted} → SeesSexp s (Pair p) → CountsOn sexp-part sexp-records s (counted 1 p) c → CountsOn sexp-part sexp-records s c r → Counts sexp-part sexp-records s r
   unfolding SexpFields cons-depth sexp-records
   pair-counts {p} {c} {r} x y z = record { within = z .within; few = z .few; counts = λ t v a. go (v .0) (v .1) (x .sees t (v .0) a) }
     where
@@ -192,19 +192,19 @@ abbrev counted-helpers : Part
 counted-helpers = (Helpers, (λ hs. byte (helpers-count hs) ++ helpers-bytes hs), λ hs. HelpersFields hs × (helpers-depth hs ≤ level-limit) × (helpers-lambda-depth hs ≤ lambda-limit))
 
 module _ {s : Bytes} {c r : Counted} where
-  bodies-adds : Adds (many-part (family-part a-body)) (total body-records) s c r → Adds counted-bodies bodies-records s c r
+  bodies-adds : CountsOn (many-part (family-part a-body)) (total body-records) s c r → CountsOn counted-bodies bodies-records s c r
   bodies-adds x = record { onward = x .onward; within = x .within; few = x .few; adds = λ bs v a. adds-listed x (listed-bodies bs (v .0) (v .1) (v .2)) a }
 
-  bindings-adds : Adds (many-part (family-part a-binding)) (total binding-records) s c r → Adds counted-bindings bindings-records s c r
+  bindings-adds : CountsOn (many-part (family-part a-binding)) (total binding-records) s c r → CountsOn counted-bindings bindings-records s c r
   bindings-adds x = record { onward = x .onward; within = x .within; few = x .few; adds = λ bs v a. adds-listed x (listed-bindings bs (v .0) (v .1) (v .2)) a }
 
-  helpers-adds : Adds (many-part (family-part a-helper)) (total helper-records) s c r → Adds counted-helpers helpers-records s c r
+  helpers-adds : CountsOn (many-part (family-part a-helper)) (total helper-records) s c r → CountsOn counted-helpers helpers-records s c r
   helpers-adds x = record { onward = x .onward; within = x .within; few = x .few; adds = λ hs v a. adds-listed x (listed-helpers hs (v .0) (v .1) (v .2)) a }
 
 -- each kind of B record
 module _ {s : Bytes} where
   pub let-told : {loc keyword hint at : ℕ} {c r : Counted} → Past (fixed-part 1) s mark-width loc → Past (fixed-part loc-width) s loc keyword → Past keyword-part s keyword hint → Past hint-part s hint at
-      → Adds (many-part (family-part a-binding)) (total binding-records) s (counted 1 at) c → Adds (family-part a-body) body-records s c r
+      → CountsOn (many-part (family-part a-binding)) (total binding-records) s (counted 1 at) c → CountsOn (family-part a-body) body-records s c r
       → (k : Kind) (l : Loc) (w h : Bytes) (bs : Bindings) (b : Body) → Told (family-part a-body) body-records s r (BL k l w h bs b)
   unfolding ascii byte body-bytes record-bytes flatten BodyFields depth lambda-depth body-records bytes-of records-of
   let-told xk xl xw xh y z k l w h bs b (f, d, ld) a =
@@ -212,28 +212,28 @@ module _ {s : Bytes} where
       let fields = past xh h (f .2) (past xw w (f .1) (past xl l (f .0 .width) (past xk (kind-field k) (kind-length k) o))) in
       ended (over z b (f .5, omega arith, omega arith) (over (bindings-adds y) bs (f .4, omega arith, omega arith) fields)) (omega arith)
 
-  pub quote-told : {r : Counted} → Adds sexp-part sexp-records s (counted 1 mark-width) r → (e : Sexp) → Told (family-part a-body) body-records s r (BQ e)
+  pub quote-told : {r : Counted} → CountsOn sexp-part sexp-records s (counted 1 mark-width) r → (e : Sexp) → Told (family-part a-body) body-records s r (BQ e)
   unfolding ascii body-bytes record-bytes flatten BodyFields body-records bytes-of records-of
   quote-told y e v a = ended (over y e (v .0) (begins (ascii "BQ") ((sexp-bytes e, sexp-records e) ∷ []) refl a)) (omega arith)
 
-  pub value-told : {r : Counted} → Adds sexp-part sexp-records s (counted 1 mark-width) r → (e : Sexp) → Told (family-part a-body) body-records s r (BV e)
+  pub value-told : {r : Counted} → CountsOn sexp-part sexp-records s (counted 1 mark-width) r → (e : Sexp) → Told (family-part a-body) body-records s r (BV e)
   unfolding ascii body-bytes record-bytes flatten BodyFields body-records bytes-of records-of
   value-told y e v a = ended (over y e (v .0) (begins (ascii "BV") ((sexp-bytes e, sexp-records e) ∷ []) refl a)) (omega arith)
 
 module _ {s : Bytes} {at : ℕ} (x : Past (fixed-part loc-width) s mark-width at) where
-  pub call-told : {c r : Counted} → Adds (many-part (family-part a-body)) (total body-records) s (counted 1 at) c → Adds tail-part tail-records s c r
+  pub call-told : {c r : Counted} → CountsOn (many-part (family-part a-body)) (total body-records) s (counted 1 at) c → CountsOn tail-part tail-records s c r
       → (l : Loc) (bs : Bodies) (t : Tail) → Told (family-part a-body) body-records s r (BC l bs t)
   unfolding ascii byte body-bytes record-bytes flatten BodyFields depth lambda-depth body-records bytes-of records-of
   call-told y z l bs t (f, d, ld) a =
       let o = begins (ascii "BC") ((l, 0) ∷ (byte (bodies-count bs) ++ bodies-bytes bs, bodies-records bs) ∷ (tail-bytes t, tail-records t) ∷ []) refl a in
       ended (over z t (f .3, omega arith, omega arith) (over (bodies-adds y) bs (f .2, omega arith, omega arith) (past x l (f .0 .width) o))) (omega arith)
 
-  pub mod-told : {r : Counted} → Adds (family-part a-form) form-records s (counted 1 at) r → (l : Loc) (e : Form) → Told (family-part a-body) body-records s r (BM l e)
+  pub mod-told : {r : Counted} → CountsOn (family-part a-form) form-records s (counted 1 at) r → (l : Loc) (e : Form) → Told (family-part a-body) body-records s r (BM l e)
   unfolding ascii body-bytes record-bytes flatten BodyFields depth lambda-depth body-records bytes-of records-of
   mod-told y l e (f, d, ld) a = ended (over y e (f .1, omega arith, omega arith) (past x l (f .0 .width) (begins (ascii "BM") ((l, 0) ∷ (form-bytes e, form-records e) ∷ []) refl a))) (omega arith)
 
-  pub lambda-told : {next : ℕ} {c d e r : Counted} → Past keyword-part s at next → Adds sexp-part sexp-records s (counted 1 next) c → Adds (family-part a-body) body-records s c d
-      → Adds sexp-part sexp-records s d e → Adds (family-part a-body) body-records s e r
+  pub lambda-told : {next : ℕ} {c d e r : Counted} → Past keyword-part s at next → CountsOn sexp-part sexp-records s (counted 1 next) c → CountsOn (family-part a-body) body-records s c d
+      → CountsOn sexp-part sexp-records s d e → CountsOn (family-part a-body) body-records s e r
       → (l : Loc) (w : Bytes) (ca : Sexp) (cb : Body) (a : Sexp) (b : Body) → Told (family-part a-body) body-records s r (BF l w ca cb a b)
   unfolding ascii body-bytes record-bytes flatten BodyFields depth lambda-depth body-records bytes-of records-of
   lambda-told xw y1 y2 y3 y4 l w ca cb ar b (f, dp, ld) a =
@@ -242,7 +242,7 @@ module _ {s : Bytes} {at : ℕ} (x : Past (fixed-part loc-width) s mark-width at
       ended (over y4 b (f .5, omega arith, omega arith) (over y3 ar (f .4) captures)) (omega arith)
 
   -- a BB
-  pub binding-told : {next : ℕ} {c r : Counted} → Past (fixed-part loc-width) s at next → Adds pattern-part pattern-records s (counted 1 next) c → Adds (family-part a-body) body-records s c r
+  pub binding-told : {next : ℕ} {c r : Counted} → Past (fixed-part loc-width) s at next → CountsOn pattern-part pattern-records s (counted 1 next) c → CountsOn (family-part a-body) body-records s c r
       → (t : Binding) → Told (family-part a-binding) binding-records s r t
   unfolding ascii binding-bytes record-bytes flatten BindingFields binding-depth binding-lambda-depth binding-records bytes-of records-of
   binding-told xn y z (BB l nl p b) (f, d, ld) a =
@@ -250,21 +250,21 @@ module _ {s : Bytes} {at : ℕ} (x : Past (fixed-part loc-width) s mark-width at
       ended (over z b (f .3, d, ld) (over y p (f .2) (past xn nl (f .1 .width) (past x l (f .0 .width) o)))) (omega arith)
 
   -- each kind of H record
-  pub constant-told : {c r : Counted} → Adds named-part no-records s (counted 1 at) c → Adds (family-part a-body) body-records s c r
+  pub constant-told : {c r : Counted} → CountsOn named-part no-records s (counted 1 at) c → CountsOn (family-part a-body) body-records s c r
       → (l : Loc) (n w : Bytes) (b : Body) → Told (family-part a-helper) helper-records s r (HC l n w b)
   unfolding ascii helper-bytes record-bytes flatten HelperFields helper-depth helper-lambda-depth helper-records bytes-of records-of
   constant-told y z l n w b (f, d, ld) a =
       let o = begins (ascii "HC") ((l, 0) ∷ (name-field n, 0) ∷ (w, 0) ∷ (body-bytes b, body-records b) ∷ []) refl a in
       ended (over z b (f .3, omega arith, omega arith) (over y (n, w) (f .1, f .2) (joins (past x l (f .0 .width) o)))) (omega arith)
 
-  pub macro-told : {c e r : Counted} → Adds named-part no-records s (counted 1 at) c → Adds sexp-part sexp-records s c e → Adds (family-part a-form) form-records s e r
+  pub macro-told : {c e r : Counted} → CountsOn named-part no-records s (counted 1 at) c → CountsOn sexp-part sexp-records s c e → CountsOn (family-part a-form) form-records s e r
       → (l : Loc) (n w : Bytes) (ar : Sexp) (b : Form) → Told (family-part a-helper) helper-records s r (HM l n w ar b)
   unfolding ascii helper-bytes record-bytes flatten HelperFields helper-depth helper-lambda-depth helper-records bytes-of records-of
   macro-told y ya z l n w ar b (f, d, ld) a =
       let o = begins (ascii "HM") ((l, 0) ∷ (name-field n, 0) ∷ (w, 0) ∷ (sexp-bytes ar, sexp-records ar) ∷ (form-bytes b, form-records b) ∷ []) refl a in
       ended (over z b (f .4, omega arith, omega arith) (over ya ar (f .3) (over y (n, w) (f .1, f .2) (joins (past x l (f .0 .width) o))))) (omega arith)
 
-  pub function-told : {next : ℕ} {c e r : Counted} → Past (fixed-part 1) s at next → Adds named-part no-records s (counted 1 next) c → Adds sexp-part sexp-records s c e → Adds (family-part a-body) body-records s e r
+  pub function-told : {next : ℕ} {c e r : Counted} → Past (fixed-part 1) s at next → CountsOn named-part no-records s (counted 1 next) c → CountsOn sexp-part sexp-records s c e → CountsOn (family-part a-body) body-records s e r
       → (l : Loc) (i : ℕ) (n w : Bytes) (ar : Sexp) (b : Body) → Told (family-part a-helper) helper-records s r (HD l i n w ar b)
   unfolding ascii helper-bytes record-bytes flatten HelperFields helper-depth helper-lambda-depth helper-records bytes-of records-of
   function-told xi y ya z l i n w ar b (f, d, ld) a =
@@ -272,22 +272,22 @@ module _ {s : Bytes} {at : ℕ} (x : Past (fixed-part loc-width) s mark-width at
       let named = over y (n, w) (f .2, f .3) (joins (past xi (byte i) (byte-length i) (past x l (f .0 .width) o))) in
       ended (over z b (f .5, omega arith, omega arith) (over ya ar (f .4) named)) (omega arith)
 
-  pub namespace-told : {c r : Counted} → Adds named-part no-records s (counted 1 at) c → Adds (many-part (family-part a-helper)) (total helper-records) s c r
+  pub namespace-told : {c r : Counted} → CountsOn named-part no-records s (counted 1 at) c → CountsOn (many-part (family-part a-helper)) (total helper-records) s c r
       → (l : Loc) (n w : Bytes) (hs : Helpers) → Told (family-part a-helper) helper-records s r (HN l n w hs)
   unfolding ascii byte helper-bytes record-bytes flatten HelperFields helper-depth helper-lambda-depth helper-records bytes-of records-of
   namespace-told y z l n w hs (f, d, ld) a =
       let o = begins (ascii "HN") ((l, 0) ∷ (name-field n, 0) ∷ (w, 0) ∷ (byte (helpers-count hs) ++ helpers-bytes hs, helpers-records hs) ∷ []) refl a in
       ended (over (helpers-adds z) hs (f .4, omega arith, omega arith) (over y (n, w) (f .1, f .2) (joins (past x l (f .0 .width) o)))) (omega arith)
 
-  pub reference-told : {r : Counted} → Adds named-part no-records s (counted 1 at) r → (l : Loc) (n w : Bytes) → Told (family-part a-helper) helper-records s r (HR l n w)
+  pub reference-told : {r : Counted} → CountsOn named-part no-records s (counted 1 at) r → (l : Loc) (n w : Bytes) → Told (family-part a-helper) helper-records s r (HR l n w)
   unfolding ascii helper-bytes record-bytes flatten HelperFields helper-records bytes-of records-of
   reference-told y l n w (f, d, ld) a =
       let o = begins (ascii "HR") ((l, 0) ∷ (name-field n, 0) ∷ (w, 0) ∷ []) refl a in
       ended (over y (n, w) (f .1, f .2) (joins (past x l (f .0 .width) o))) (omega arith)
 
   -- a CF
-  pub form-told : {next : ℕ} {c e r : Counted} → Past raw-part s at next → Adds sexp-part sexp-records s (counted 1 next) c → Adds (many-part (family-part a-helper)) (total helper-records) s c e
-      → Adds (family-part a-body) body-records s e r → (t : Form) → Told (family-part a-form) form-records s r t
+  pub form-told : {next : ℕ} {c e r : Counted} → Past raw-part s at next → CountsOn sexp-part sexp-records s (counted 1 next) c → CountsOn (many-part (family-part a-helper)) (total helper-records) s c e
+      → CountsOn (family-part a-body) body-records s e r → (t : Form) → Told (family-part a-form) form-records s r t
   unfolding ascii byte form-bytes record-bytes flatten FormFields form-depth form-lambda-depth form-records bytes-of records-of
   form-told xr ya yh z (CF l w ar hs b) (f, d, ld) a =
       let o = begins (ascii "CF") ((l, 0) ∷ (w, 0) ∷ (sexp-bytes ar, sexp-records ar) ∷ (byte (helpers-count hs) ++ helpers-bytes hs, helpers-records hs) ∷ (body-bytes b, body-records b) ∷ []) refl a in

@@ -13,7 +13,7 @@ use Rattle.names.specs.Names.{Bytes}
 use Rattle.names.specs.Refusals.{place-at, refusing, placeless}
 use Rattle.names.specs.declared.Place.{Place}
 use Rattle.names.specs.declared.Refusal.{Refusal}
-use Rattle.names.specs.Answers.{max-counter}
+use Rattle.names.specs.CallAnswer.{max-counter}
 use Rattle.records.specs.declared.Opening.the-variants.{Accepted, Refused}
 use Rattle.records.specs.declared.Wanted.{Wanted}
 use Rattle.records.specs.declared.Wanted.the-variants.{Form as a-whole-form, Helper as a-single-helper, Assign as an-assign}

@@ -8,7 +8,7 @@ use lib.Dec.{T, leb, leb→le}
 use lib.ListN.{length}
 use Rattle.names.specs.Names.{Bytes}
 use Rattle.names.specs.Refusals.{placeless}
-use Rattle.names.specs.Answers.{max-counter}
+use Rattle.names.specs.CallAnswer.{max-counter}
 use Rattle.names.proofs.Same.{T-left, T-right}
 use Rattle.records.specs.Opened.{Opened, opened, closed, limits, no-mod, open-input}
 use Rattle.records.specs.Limits.{least-longest, most-longest, work-factor}

@@ -11,7 +11,7 @@ use Rattle.names.specs.Segments.{At}
 use Rattle.names.proofs.Places.{at-left, at-right, at-place, at-into-drop}
 use Rattle.records.specs.Records.{mark-width, byte}
 use Rattle.records.specs.declared.Counted.{Counted}
-use Rattle.records.specs.Count.{total, no-records, many-part, Counts, Begun, Adds}
+use Rattle.records.specs.Count.{total, no-records, many-part, Counts, Begun, CountsOn}
 use Rattle.records.specs.Lists.{joined, Each}
 use Rattle.records.specs.Parts.{Part, fixed-part, Past}
 use Rattle.records.proofs.Lists.{Listed}
@@ -54,7 +54,7 @@ ended h q = (omega (arith, h .ends), omega (arith, h .sum))
 
 module _ {p : Part} {s : Bytes} {c : Counted} {fs : List Field} {e k : ℕ} where
   -- over a tree
-  pub over : {n : p .0 → ℕ} {r : Counted} → Adds p n s c r → (t : p .0) → p .2 t → Runs s c ((p .1 t, n t) ∷ fs) e k → Runs s r fs e k
+  pub over : {n : p .0 → ℕ} {r : Counted} → CountsOn p n s c r → (t : p .0) → p .2 t → Runs s c ((p .1 t, n t) ∷ fs) e k → Runs s r fs e k
   unfolding bytes-of records-of
   over x t v h =
       let w = x .adds t v (at-left (p .1 t) (bytes-of fs) (h .there)) in
@@ -81,7 +81,7 @@ unfolding bytes-of records-of
 joins h = record { there = rw append-assoc (h .there); ends = rw append-assoc (h .ends); sum = omega (arith, h .sum) }
 
 -- a field has no records
-pub past-adds : {p : Part} {s : Bytes} {c : Counted} {at : ℕ} → Begun s c → Past p s (c .end) at → Adds p no-records s c (counted (c .count) at)
+pub past-adds : {p : Part} {s : Bytes} {c : Counted} {at : ℕ} → Begun s c → Past p s (c .end) at → CountsOn p no-records s c (counted (c .count) at)
 past-adds b x = record { onward = x .onward; within = x .within; few = omega (arith, b .few, x .onward); adds = λ t v a. (x .past t v a, omega arith) }
 
 -- a count goes on behind a field
@@ -90,7 +90,7 @@ begun-past b x = record { started = omega (arith, b .started, x .onward); within
 
 -- a field, and what stands behind it
 module _ {p q : Part} {n : q .0 → ℕ} {s : Bytes} {c r : Counted} {at : ℕ} where
-  pub then : Past p s (c .end) at → Adds q n s (counted (c .count) at) r → (t : p .0) (u : q .0) → p .2 t → q .2 u → At s (c .end) (p .1 t ++ q .1 u)
+  pub then : Past p s (c .end) at → CountsOn q n s (counted (c .count) at) r → (t : p .0) (u : q .0) → p .2 t → q .2 u → At s (c .end) (p .1 t ++ q .1 u)
       → (r .end ≡ c .end + length (p .1 t ++ q .1 u)) × (r .count ≡ c .count + n u)
   then x y t u v w a =
       let e = x .past t v (at-left (p .1 t) (q .1 u) a) in
@@ -100,7 +100,7 @@ module _ {p q : Part} {n : q .0 → ℕ} {s : Bytes} {c r : Counted} {at : ℕ} 
 
 -- a record that stands by itself is the child that stands at a place
 pub child-adds : {p : Part} {n : p .0 → ℕ} {s : Bytes} {c r : Counted} → Begun s c → Counts p n (take (length s - c .end) (drop (c .end) s)) r
-    → Adds p n s c (counted (c .count + r .count) (c .end + r .end))
+    → CountsOn p n s c (counted (c .count + r .count) (c .end + r .end))
 child-adds {p} {s} {c} b k =
     let at = c .end in
     let w : take (length s - at) (drop at s) ≡ drop at s = take-all (length s - at) (drop at s) (omega (arith, length-drop at s)) in
@@ -124,7 +124,7 @@ pub record Rest (p : Part) (n : p .0 → ℕ) (s : Bytes) (c : Counted) (i size 
 
 module _ {p : Part} {n : p .0 → ℕ} {s : Bytes} {c : Counted} {i size e k : ℕ} where
   -- one more is behind
-  pub rest-step : {r : Counted} → Rest p n s c i size e k → i < size → Adds p n s c r → Rest p n s r (i + 1) size e k
+  pub rest-step : {r : Counted} → Rest p n s c i size e k → i < size → CountsOn p n s c r → Rest p n s r (i + 1) size e k
   unfolding joined Each total
   rest-step {r} h l x = go (h .rest) (h .many) (h .fit) (h .there) (h .ends) (h .sum)
     where
@@ -168,7 +168,7 @@ rest-first {p} {c} {at} h x ts v a =
     }
 
 -- over trees that are listed
-pub adds-listed : {p : Part} {f : p .0 → ℕ} {s : Bytes} {c r : Counted} {n k : ℕ} {bs : Bytes} → Adds (many-part p) (total f) s c r → Listed p f n bs k
+pub adds-listed : {p : Part} {f : p .0 → ℕ} {s : Bytes} {c r : Counted} {n k : ℕ} {bs : Bytes} → CountsOn (many-part p) (total f) s c r → Listed p f n bs k
     → At s (c .end) (byte n ++ bs) → (r .end ≡ c .end + length (byte n ++ bs)) × (r .count ≡ c .count + k)
 adds-listed {p} {s} {c} {r} {n} {bs} x l a =
     let e : byte (length (l .trees)) ++ joined (p .1) (l .trees) ≡ byte n ++ bs = cc (l .count, l .same) in

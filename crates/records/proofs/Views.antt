@@ -16,7 +16,7 @@ use Rattle.records.specs.Records.{head-width, mark-width, loc-width, int
 use Rattle.records.specs.Valid.{ValidLoc, ValidName, ValidRaw, ValidSexp, ValidHelper, SexpFields, cons-depth, BodyFields, BindingFields, HelperFields, FormFields, lambda-depth}
 use Rattle.records.specs.declared.Family.the-variants.{Body as a-body}
 use Rattle.records.specs.Parts.{Part, Past, fixed-part, name-part, raw-part, keyword-part, hint-part, pattern-part, sexp-part, family-part}
-use Rattle.records.specs.Views.{Stands, Closes, PastHead, SeesCall, SeesLet, SeesBinding, SeesLambda, SeesMod, SeesQuote, SeesValue, SeesForm, PastNamed, PastArgs, SeesFunction, SeesConstant, SeesMacro, SeesNamespace, SeesReference, SeesCons, SeesAtom, counted-field, SeesCounted, SeesName, SeesInteger, TaggedAt, PatternAt, TailAt, SeesTagged}
+use Rattle.records.specs.Views.{Stands, Closes, PastHead, SeesCall, SeesLet, SeesLambda, SeesQuote, SeesValue, SeesForm, PastNamed, PastArgs, SeesFunction, SeesConstant, SeesMacro, SeesNamespace, counted-field, SeesCounted, SeesName, SeesInteger, TaggedAt, PatternAt, TailAt, SeesTagged}
 use Rattle.records.specs.declared.NameView.{NameView}
 use Rattle.records.specs.declared.NamedView.{NamedView}
 use Rattle.records.specs.declared.ArgsView.{ArgsView}
@@ -220,23 +220,12 @@ module _ {s : Bytes} {m kind loc keyword hint at count first : ℕ} where
         close-step xc _ (byte-length (bindings-count bs)) (close-step xh h (v .0 .2) (close-step xw w (v .0 .1) (close-step xl l (v .0 .0 .width) hl)));
   }
 
-module _ {s : Bytes} {at pattern body : ℕ} where
-  pub sees-binding : PastHead s at → Past (fixed-part loc-width) s at pattern → Past pattern-part s pattern body → SeesBinding s (record { pattern = pattern; body = body })
-  unfolding ascii binding-bytes BindingFields
-  sees-binding x xl xp = record {
-    pattern-within = xl .within;
-    body-within = xp .within;
-    sees = λ l nl p b v a.
-        let hp = step xl nl (v .0 .1 .width) (x .past (ascii "BB") l _ refl (v .0 .0) (opened "BB" _ a)) in
-        record { pattern = first-of hp; body = first-of (step xp p (v .0 .2) hp) };
-  }
-
 module _ {s : Bytes} {keyword ca captures args body : ℕ} where
   pub sees-lambda : PastHead s keyword → Past keyword-part s keyword ca → Past sexp-part s ca captures → Past (family-part a-body) s captures args → Past sexp-part s args body
-      → SeesLambda s (record { keyword = keyword; binders = ca; captures = captures; args = args; body = body })
+      → SeesLambda s (record { keyword = keyword; «capture_args» = ca; captures = captures; args = args; body = body })
   unfolding ascii body-bytes BodyFields depth lambda-depth
   sees-lambda x xw xca xc xa = record {
-    binders-within = xw .within;
+    capture-args-within = xw .within;
     args-within = xc .within;
     sees = λ l w ca′ c a b v e.
         let hw = x .past (ascii "BF") l _ refl (v .0 .0) (opened "BF" _ e) in
@@ -246,7 +235,7 @@ module _ {s : Bytes} {keyword ca captures args body : ℕ} where
         let ld : lambda-depth c ≤ lambda-limit = omega (arith, v .2) in
         let ha = step xc c (v .0 .3, d, ld) hc in
         let hb = step xa a (v .0 .4) ha in
-        record { keyword = first-of hw; binders = first-of hca; captures = first-of hc; args = first-of ha; body = first-of hb };
+        record { keyword = first-of hw; capture-args = first-of hca; captures = first-of hc; args = first-of ha; body = first-of hb };
     closes = λ l w ca′ c a b v e.
         let d : depth c ≤ level-limit = omega (arith, v .1) in
         let ld : lambda-depth c ≤ lambda-limit = omega (arith, v .2) in
@@ -259,18 +248,14 @@ module _ {s : Bytes} {keyword ca captures args body : ℕ} where
         let ld : lambda-depth c ≤ lambda-limit = omega (arith, v .2) in
         let ha = step xc c (v .0 .3, d, ld) hc in
         let at-keyword = x .ends (ascii "BF") l _ refl (v .0 .0) (opened "BF" _ e) in
-        let at-binders = xw .past w (v .0 .1) (first-of hw) in
+        let at-capture-args = xw .past w (v .0 .1) (first-of hw) in
         let at-captures = xca .past ca′ (v .0 .2) (first-of hca) in
         let at-args = xc .past c (v .0 .3, d, ld) (first-of hc) in
         let at-body = xa .past a (v .0 .4) (first-of ha) in
-        record { parted = record { binders-at = omega (arith, length-append l w); args-at = omega arith; body-at = at-body }; captures-at = at-captures };
+        record { parted = record { capture-args-at = omega (arith, length-append l w); args-at = omega arith; body-at = at-body }; captures-at = at-captures };
   }
 
 module _ {s : Bytes} {r : ℕ} where
-  pub sees-mod : PastHead s r → SeesMod s r
-  unfolding ascii body-bytes BodyFields
-  sees-mod x l f v a = first-of (x .past (ascii "BM") l _ refl (v .0 .0) (opened "BM" _ a))
-
   pub sees-quote : Past (fixed-part mark-width) s 0 r → SeesQuote s r
   unfolding ascii body-bytes
   sees-quote x e a = first-of (step x (ascii "BQ") refl (opened "BQ" _ a))
@@ -278,10 +263,6 @@ module _ {s : Bytes} {r : ℕ} where
   pub sees-value : Past (fixed-part mark-width) s 0 r → SeesValue s r
   unfolding ascii body-bytes
   sees-value x e a = first-of (step x (ascii "BV") refl (opened "BV" _ a))
-
-  pub sees-atom : PastHead s r → SeesAtom s r
-  unfolding ascii sexp-bytes SexpFields
-  sees-atom x l n v a = first-of (x .past (ascii "SA") l _ refl (v .0 .0) (opened "SA" _ a))
 
 module _ {s : Bytes} {raw args at count first : ℕ} where
   pub sees-form : PastHead s raw → Past raw-part s raw args → Past sexp-part s args at → ByteAt s at count → Past (fixed-part 1) s at first
@@ -340,13 +321,6 @@ module _ {s : Bytes} {at : ℕ} {v : NamedView} where
     ends = λ l n r b f a. close-one (close-named y n r (f .0 .1) (f .0 .2) (close-head "HC" x l _ refl (f .0 .0) a));
   }
 
-  pub sees-reference : PastHead s at → PastNamed s at v → SeesReference s v
-  unfolding ascii helper-bytes HelperFields flatten
-  sees-reference x y = record {
-    sees = λ l n r f a. y .past n r _ (f .0 .1) (f .0 .2) (x .past (ascii "HR") l _ refl (f .0 .0) (opened "HR" _ a));
-    ends = λ l n r f a. omega (arith, close-named y n r (f .0 .1) (f .0 .2) (close-head "HR" x l _ refl (f .0 .0) a) .whole);
-  }
-
   pub sees-namespace : {count first : ℕ} → PastHead s at → PastNamed s at v → ByteAt s (v .next) count → Past (fixed-part 1) s (v .next) first
       → SeesNamespace s (record { name = v .name; raw = v .raw; count = count; first = first })
   unfolding ascii helper-bytes HelperFields
@@ -375,11 +349,3 @@ module _ {s : Bytes} {at : ℕ} {v : ArgsView} where
     sees = λ l i n r a c f e. y .past n r a _ (f .0 .2) (f .0 .3) (f .0 .4) (step z _ (byte-length i) (x .past (ascii "HD") l _ refl (f .0 .0) (opened "HD" _ e)));
     ends = λ l i n r a c f e. close-args y n r a (f .0 .2) (f .0 .3) (f .0 .4) (close-step z _ (byte-length i) (close-head "HD" x l _ refl (f .0 .0) e));
   }
-
-module _ {s : Bytes} {head tail : ℕ} where
-  pub sees-cons : PastHead s head → Past sexp-part s head tail → SeesCons s (record { head = head; tail = tail })
-  unfolding ascii sexp-bytes SexpFields cons-depth
-  sees-cons x y l h t v a =
-      let w = x .past (ascii "SC") l _ refl (v .0 .0) (opened "SC" _ a) in
-      let d : cons-depth h ≤ cons-limit = omega (arith, v .1) in
-      record { head = first-of w; tail = first-of (step y h (v .0 .1, d) w) }

@@ -116,7 +116,7 @@ pub record Begun (s : Bytes) (c : Counted) : Type 0 where
   pub few : c .count ≤ c .end
 
 -- r goes on from the count c over the tree whose bytes stand in s where c ends
-pub record Adds (p : Part) (n : p .0 → ℕ) (s : Bytes) (c r : Counted) : Type 0 where
+pub record CountsOn (p : Part) (n : p .0 → ℕ) (s : Bytes) (c r : Counted) : Type 0 where
   pub onward : c .end ≤ r .end
   pub within : r .end ≤ length s
   pub few : r .count ≤ r .end

@@ -7,7 +7,7 @@ pub mod Opened
 pub mod Depth
 pub mod Valid
 pub mod Scan
-pub mod Answer
+pub mod StepAnswer
 pub mod Parts
 pub mod Views
 pub mod Count

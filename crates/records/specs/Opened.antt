@@ -6,7 +6,7 @@ use Prim.Native.Nat.{ℕ, _*_}
 use lib.Dec.{leb}
 use lib.ListN.{length}
 use Rattle.names.specs.Names.{Bytes}
-use Rattle.names.specs.Answers.{max-counter}
+use Rattle.names.specs.CallAnswer.{max-counter}
 use Rattle.names.specs.Refusals.{place-at, refusing, placeless}
 use Rattle.names.specs.declared.Refusal.{Refusal}
 use Rattle.records.specs.Limits.{least-longest, most-longest, work-factor}

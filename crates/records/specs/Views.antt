@@ -14,14 +14,12 @@ use Rattle.records.specs.Parts.{Past, fixed-part, ValidBinding}
 use Rattle.records.specs.declared.NameView.{NameView}
 use Rattle.records.specs.declared.TaggedView.{TaggedView}
 use Rattle.records.specs.declared.LetView.{LetView}
-use Rattle.records.specs.declared.BindingView.{BindingView}
 use Rattle.records.specs.declared.CallView.{CallView}
 use Rattle.records.specs.declared.LambdaView.{LambdaView}
 use Rattle.records.specs.declared.FormView.{FormView}
 use Rattle.records.specs.declared.NamedView.{NamedView}
 use Rattle.records.specs.declared.ArgsView.{ArgsView}
 use Rattle.records.specs.declared.NamespaceView.{NamespaceView}
-use Rattle.records.specs.declared.ConsView.{ConsView}
 use Rattle.records.specs.declared.SexpView.{SexpView}
 use Rattle.records.specs.declared.SexpView.the-variants.{Nil, Pair, Integer, Text, Atom, Unknown}
 
@@ -115,49 +113,35 @@ pub record SeesLet (s : Bytes) (v : LetView) : Type 0 where
   pub sees : (k : Kind) (l : Loc) (w h : Bytes) (bs : Bindings) (b : Body) → ValidBody (BL k l w h bs b) → At s 0 (body-bytes (BL k l w h bs b)) → LetAt s v k l w h bs b
   pub closes : (k : Kind) (l : Loc) (w h : Bytes) (bs : Bindings) (b : Body) → ValidBody (BL k l w h bs b) → At s 0 (body-bytes (BL k l w h bs b)) → Closes s (v .first) (bindings-bytes bs ∷ body-bytes b ∷ []) (length (body-bytes (BL k l w h bs b)))
 
--- a BB: its pattern and its body
-pub record BindingAt (s : Bytes) (v : BindingView) (p : Pattern) (b : Body) : Type 0 where
-  pub pattern : At s (v .pattern) (pattern-field p)
-  pub body : At s (v .body) (body-bytes b)
-
-pub record SeesBinding (s : Bytes) (v : BindingView) : Type 0 where
-  pub pattern-within : v .pattern ≤ length s
-  pub body-within : v .body ≤ length s
-  pub sees : (l nl : Loc) (p : Pattern) (b : Body) → ValidBinding (BB l nl p b) → At s 0 (binding-bytes (BB l nl p b)) → BindingAt s v p b
-
 -- the bytes of a BF before its capture args
 abbrev pub lambda-head : Loc → Bytes → Bytes
 lambda-head l w = ascii "BF" ++ (l ++ w)
 
 -- where capture args, args and body stand
 pub record Parted (at args body : ℕ) (l : Loc) (w : Bytes) (ca : Sexp) (c : Body) (a : Sexp) : Type 0 where
-  pub binders-at : at ≡ length (lambda-head l w)
+  pub capture-args-at : at ≡ length (lambda-head l w)
   pub args-at : args ≡ at + length (sexp-bytes ca) + length (body-bytes c)
   pub body-at : body ≡ args + length (sexp-bytes a)
 
 -- and the captures, in a view
 pub record LambdaParted (v : LambdaView) (l : Loc) (w : Bytes) (ca : Sexp) (c : Body) (a : Sexp) : Type 0 where
-  pub parted : Parted (v .binders) (v .args) (v .body) l w ca c a
-  pub captures-at : v .captures ≡ v .binders + length (sexp-bytes ca)
+  pub parted : Parted (v .«capture_args») (v .args) (v .body) l w ca c a
+  pub captures-at : v .captures ≡ v .«capture_args» + length (sexp-bytes ca)
 
 -- a BF: K, capture args, captures, args and body
 pub record LambdaAt (s : Bytes) (v : LambdaView) (w : Bytes) (ca : Sexp) (c : Body) (a : Sexp) (b : Body) : Type 0 where
   pub keyword : At s (v .keyword) w
-  pub binders : At s (v .binders) (sexp-bytes ca)
+  pub capture-args : At s (v .«capture_args») (sexp-bytes ca)
   pub captures : At s (v .captures) (body-bytes c)
   pub args : At s (v .args) (sexp-bytes a)
   pub body : At s (v .body) (body-bytes b)
 
 pub record SeesLambda (s : Bytes) (v : LambdaView) : Type 0 where
-  pub binders-within : v .binders ≤ length s
+  pub capture-args-within : v .«capture_args» ≤ length s
   pub args-within : v .args ≤ length s
   pub sees : (l : Loc) (w : Bytes) (ca : Sexp) (c : Body) (a : Sexp) (b : Body) → ValidBody (BF l w ca c a b) → At s 0 (body-bytes (BF l w ca c a b)) → LambdaAt s v w ca c a b
   pub closes : (l : Loc) (w : Bytes) (ca : Sexp) (c : Body) (a : Sexp) (b : Body) → ValidBody (BF l w ca c a b) → At s 0 (body-bytes (BF l w ca c a b)) → Closes s (v .args) (sexp-bytes a ∷ body-bytes b ∷ []) (length (body-bytes (BF l w ca c a b)))
   pub parts : (l : Loc) (w : Bytes) (ca : Sexp) (c : Body) (a : Sexp) (b : Body) → ValidBody (BF l w ca c a b) → At s 0 (body-bytes (BF l w ca c a b)) → LambdaParted v l w ca c a
-
--- a BM: its CF
-abbrev pub SeesMod : Bytes → ℕ → Type 0
-SeesMod s v = (l : Loc) (f : Form) → ValidBody (BM l f) → At s 0 (body-bytes (BM l f)) → At s v (form-bytes f)
 
 -- a BQ, a BV: its S record
 abbrev pub SeesQuote : Bytes → ℕ → Type 0
@@ -229,23 +213,6 @@ pub record SeesNamespace (s : Bytes) (v : NamespaceView) : Type 0 where
   pub sees : (l : Loc) (n r : Bytes) (hs : Helpers) → ValidHelper (HN l n r hs) → At s 0 (helper-bytes (HN l n r hs)) → NamespaceAt s v n r hs
   pub counted : (l : Loc) (n r : Bytes) (hs : Helpers) → ValidHelper (HN l n r hs) → At s 0 (helper-bytes (HN l n r hs)) → 1 ≤ v .first
   pub ends : (l : Loc) (n r : Bytes) (hs : Helpers) → ValidHelper (HN l n r hs) → At s 0 (helper-bytes (HN l n r hs)) → v .first + length (helpers-bytes hs) ≡ length (helper-bytes (HN l n r hs))
-
--- of an HR: it ends with R
-pub record SeesReference (s : Bytes) (v : NamedView) : Type 0 where
-  pub sees : (l : Loc) (n r : Bytes) → ValidHelper (HR l n r) → At s 0 (helper-bytes (HR l n r)) → NamedAt s v n r []
-  pub ends : (l : Loc) (n r : Bytes) → ValidHelper (HR l n r) → At s 0 (helper-bytes (HR l n r)) → v .next ≡ length (helper-bytes (HR l n r))
-
--- an SC: its head and its tail
-pub record ConsAt (s : Bytes) (v : ConsView) (h t : Sexp) : Type 0 where
-  pub head : At s (v .head) (sexp-bytes h)
-  pub tail : At s (v .tail) (sexp-bytes t)
-
-abbrev pub SeesCons : Bytes → ConsView → Type 0
-SeesCons s v = (l : Loc) (h t : Sexp) → ValidSexp (SC l h t) → At s 0 (sexp-bytes (SC l h t)) → ConsAt s v h t
-
--- an SA: its name
-abbrev pub SeesAtom : Bytes → ℕ → Type 0
-SeesAtom s v = (l : Loc) (n : Bytes) → ValidSexp (SA l n) → At s 0 (sexp-bytes (SA l n)) → At s v (name-field n)
 
 -- what a view says of the S record that s starts with: of an SN its end; of an SC where its head stands, with its tail behind; of an SI, SQ or SA
 -- its bytes, with which it ends

@@ -1,5 +1,4 @@
 // Views of the B records and of BB.
-use crate::BindingView;
 use crate::CallView;
 use crate::Family;
 use crate::LOC_WIDTH;
@@ -11,10 +10,9 @@ use crate::past::past_bytes;
 use crate::past::past_head;
 use crate::past::past_hint;
 use crate::past::past_keyword;
-use crate::past::past_pattern;
 use crate::skip::past_record;
 use crate::skip::past_sexp;
-ghost use Rattle.records.specs.Views.{SeesCall, SeesLet, SeesBinding, SeesLambda, SeesMod, SeesQuote, SeesValue};
+ghost use Rattle.records.specs.Views.{SeesCall, SeesLet, SeesLambda, SeesQuote, SeesValue};
 
 // A BC.
 pub fn call_view(s: &[u8]) -> CallView
@@ -48,38 +46,22 @@ pub fn let_view(s: &[u8]) -> LetView
     }
 }
 
-// A BB.
-pub fn binding_view(s: &[u8]) -> BindingView
-    ensures { λ r. ⌜ SeesBinding (now (s .entry)) r ⌝ }
-{
-    let pattern = past_bytes(s, past_head(s), LOC_WIDTH);
-    let body = past_pattern(s, pattern);
-    BindingView { pattern, body }
-}
-
 // A BF.
 pub fn lambda_view(s: &[u8]) -> LambdaView
     ensures { λ r. ⌜ SeesLambda (now (s .entry)) r ⌝ }
 {
     let keyword = past_head(s);
-    let binders = past_keyword(s, keyword);
-    let captures = past_sexp(s, binders);
+    let capture_args = past_keyword(s, keyword);
+    let captures = past_sexp(s, capture_args);
     let args = past_record(Family::Body, s, captures);
     let body = past_sexp(s, args);
     LambdaView {
         keyword,
-        binders,
+        capture_args,
         captures,
         args,
         body,
     }
-}
-
-// A BM: where its CF starts.
-pub fn mod_view(s: &[u8]) -> usize
-    ensures { λ r. ⌜ SeesMod (now (s .entry)) r ⌝ }
-{
-    past_head(s)
 }
 
 // A BQ or a BV: where its S record starts.

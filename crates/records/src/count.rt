@@ -17,7 +17,7 @@ use crate::sexps::sexp_view;
 ghost use Prim.Native.Nat.{_≤_};
 ghost use lib.ListN.{length};
 ghost use Rattle.records.specs.Records.{mark-width};
-ghost use Rattle.records.specs.Count.{sexp-records, pattern-records, tail-records, family-records, total, no-records, many-part, tail-part, named-part, Counts, Begun, Adds};
+ghost use Rattle.records.specs.Count.{sexp-records, pattern-records, tail-records, family-records, total, no-records, many-part, tail-part, named-part, Counts, Begun, CountsOn};
 ghost use Rattle.records.specs.Parts.{sexp-part, pattern-part, family-part};
 
 // How many S records the one that s starts with has, itself among them, and its length.
@@ -42,7 +42,7 @@ pub fn count_sexps(s: &[u8]) -> Counted
 // A child S record.
 fn child_sexp(s: &[u8], c: Counted) -> Counted
     requires { ⌜ Begun (now s) c ⌝ }
-    ensures { λ r. ⌜ Adds sexp-part sexp-records (now (s .entry)) c r ⌝ }
+    ensures { λ r. ⌜ CountsOn sexp-part sexp-records (now (s .entry)) c r ⌝ }
 {
     let at = c.end;
     let r = count_sexps(&s[at..]);
@@ -55,7 +55,7 @@ fn child_sexp(s: &[u8], c: Counted) -> Counted
 // A Name or a Complex pattern.
 fn pattern(s: &[u8], c: Counted) -> Counted
     requires { ⌜ Begun (now s) c ⌝ }
-    ensures { λ r. ⌜ Adds pattern-part pattern-records (now (s .entry)) c r ⌝ }
+    ensures { λ r. ⌜ CountsOn pattern-part pattern-records (now (s .entry)) c r ⌝ }
 {
     let at = c.end;
     let next = past_bytes(s, at, 1);
@@ -77,7 +77,7 @@ fn pattern(s: &[u8], c: Counted) -> Counted
 // A name and R.
 fn named(s: &[u8], c: Counted) -> Counted
     requires { ⌜ Begun (now s) c ⌝ }
-    ensures { λ r. ⌜ Adds named-part no-records (now (s .entry)) c r ⌝ }
+    ensures { λ r. ⌜ CountsOn named-part no-records (now (s .entry)) c r ⌝ }
 {
     Counted {
         count: c.count,
@@ -106,7 +106,7 @@ pub fn count_records(family: Family, s: &[u8]) -> Counted
 // A child record.
 fn child(family: Family, s: &[u8], c: Counted) -> Counted
     requires { ⌜ Begun (now s) c ⌝ }
-    ensures { λ r. ⌜ Adds (family-part family) (family-records family) (now (s .entry)) c r ⌝ }
+    ensures { λ r. ⌜ CountsOn (family-part family) (family-records family) (now (s .entry)) c r ⌝ }
 {
     let at = c.end;
     let r = count_records(family, &s[at..]);
@@ -119,7 +119,7 @@ fn child(family: Family, s: &[u8], c: Counted) -> Counted
 // A count, and that many children.
 fn many(family: Family, s: &[u8], c: Counted) -> Counted
     requires { ⌜ Begun (now s) c ⌝ }
-    ensures { λ r. ⌜ Adds (many-part (family-part family)) (total (family-records family)) (now (s .entry)) c r ⌝ }
+    ensures { λ r. ⌜ CountsOn (many-part (family-part family)) (total (family-records family)) (now (s .entry)) c r ⌝ }
 {
     let at = c.end;
     let n = byte_at(s, at);
@@ -138,7 +138,7 @@ fn many(family: Family, s: &[u8], c: Counted) -> Counted
 // The tail of a call.
 fn tail(s: &[u8], c: Counted) -> Counted
     requires { ⌜ Begun (now s) c ⌝ }
-    ensures { λ r. ⌜ Adds tail-part tail-records (now (s .entry)) c r ⌝ }
+    ensures { λ r. ⌜ CountsOn tail-part tail-records (now (s .entry)) c r ⌝ }
 {
     let at = c.end;
     let next = Counted {

@@ -11,7 +11,7 @@ use crate::past::past_raw;
 use crate::skip::past_sexp;
 ghost use Prim.Native.Nat.{_≤_};
 ghost use lib.ListN.{length};
-ghost use Rattle.records.specs.Views.{PastNamed, PastArgs, SeesForm, SeesFunction, SeesConstant, SeesMacro, SeesNamespace, SeesReference};
+ghost use Rattle.records.specs.Views.{PastNamed, PastArgs, SeesForm, SeesFunction, SeesConstant, SeesMacro, SeesNamespace};
 
 // A CF.
 pub fn form_view(s: &[u8]) -> FormView
@@ -95,11 +95,4 @@ pub fn namespace_view(s: &[u8]) -> NamespaceView
         count,
         first,
     }
-}
-
-// An HR: nothing stands next.
-pub fn reference_view(s: &[u8]) -> NamedView
-    ensures { λ r. ⌜ SeesReference (now (s .entry)) r ⌝ }
-{
-    named(s, past_head(s))
 }

@@ -129,12 +129,6 @@ pub struct LetView {
     pub first: usize,
 }
 
-// A BB: where its pattern and its body start.
-pub struct BindingView {
-    pub pattern: usize,
-    pub body: usize,
-}
-
 // A BC: the number of its elements, and where the first of them starts.
 pub struct CallView {
     pub count: u8,
@@ -144,7 +138,7 @@ pub struct CallView {
 // A BF: where K, the capture args, the captures, the args and the body start.
 pub struct LambdaView {
     pub keyword: usize,
-    pub binders: usize,
+    pub capture_args: usize,
     pub captures: usize,
     pub args: usize,
     pub body: usize,
@@ -179,12 +173,6 @@ pub struct NamespaceView {
     pub raw: usize,
     pub count: u8,
     pub first: usize,
-}
-
-// An SC: where its head and its tail start.
-pub struct ConsView {
-    pub head: usize,
-    pub tail: usize,
 }
 
 // An S record: where an SN ends; where the head of an SC starts; where the number of an SI, the text

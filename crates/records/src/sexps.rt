@@ -1,31 +1,13 @@
 // Views of the S records.
-use crate::ConsView;
 use crate::SexpView;
 use crate::past::integer_view;
 use crate::past::name_view;
 use crate::past::past_bytes;
 use crate::past::past_head;
 use crate::sexp::sexp_mark;
-use crate::skip::past_sexp;
 ghost use mathlib.Core.Path.{_≡_};
 ghost use Rattle.records.specs.Sexps.{all-zero};
-ghost use Rattle.records.specs.Views.{SeesCons, SeesAtom, SeesSexp};
-
-// An SC.
-pub fn cons_view(s: &[u8]) -> ConsView
-    ensures { λ r. ⌜ SeesCons (now (s .entry)) r ⌝ }
-{
-    let head = past_head(s);
-    let tail = past_sexp(s, head);
-    ConsView { head, tail }
-}
-
-// An SA: where its name starts.
-pub fn atom_view(s: &[u8]) -> usize
-    ensures { λ r. ⌜ SeesAtom (now (s .entry)) r ⌝ }
-{
-    past_head(s)
-}
+ghost use Rattle.records.specs.Views.{SeesSexp};
 
 // An S record of any kind.
 pub fn sexp_view(s: &[u8]) -> SexpView

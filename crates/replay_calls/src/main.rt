@@ -15,7 +15,7 @@ use names::refusals::place_at;
 use names::refusals::refusing;
 use records::MOST_LONGEST;
 use records::WORK_FACTOR;
-use replays::Outcome;
+use replays::Verdict;
 use replays::reads;
 ghost use Prim.Native.Nat.{_≤_};
 ghost use lib.ListN.{length};
@@ -59,12 +59,12 @@ fn judged(
     mem: &mut [u8],
     parts: &[u8],
     result: usize,
-) -> Outcome
+) -> Verdict
     requires { ⌜ result ≤ length (now parts) ⌝ }
 {
     let c = case_of(head);
     if c.call >= CALLS {
-        return Outcome::Broken;
+        return Verdict::Broken;
     }
     let buffer = number(head, 34, 2);
     let input = &parts[..result];
@@ -72,42 +72,42 @@ fn judged(
 }
 
 // Lends as much memory as a case asks for, and has the call answer it.
-fn lends(head: &[u8; HEAD], work: &mut [u8], mem: &mut [u8], parts: &[u8], result: usize) -> Outcome
+fn lends(head: &[u8; HEAD], work: &mut [u8], mem: &mut [u8], parts: &[u8], result: usize) -> Verdict
     requires { ⌜ result ≤ length (now parts) ⌝ }
 {
     let enough = number(head, 6, 4);
     let end = number(head, 34, 2) + BEHIND;
     if enough > work.len() {
-        return Outcome::Broken;
+        return Verdict::Broken;
     }
     if end > mem.len() {
-        return Outcome::Broken;
+        return Verdict::Broken;
     }
     judged(head, &mut work[..enough], &mut mem[..end], parts, result)
 }
 
 // Reads what follows the head of a case, and has the call answer it.
-fn rest(head: &[u8; HEAD], work: &mut [u8], mem: &mut [u8], buf: &mut [u8]) -> Outcome {
+fn rest(head: &[u8; HEAD], work: &mut [u8], mem: &mut [u8], buf: &mut [u8]) -> Verdict {
     let result = number(head, 36, 2);
     let end = result + number(head, 38, 2);
     if end > buf.len() {
-        return Outcome::CutOff;
+        return Verdict::CutOff;
     }
     if !reads(&mut buf[..end]) {
-        return Outcome::CutOff;
+        return Verdict::CutOff;
     }
     lends(head, work, mem, &buf[..end], result)
 }
 
 // Reads the next case and has the call answer it.
-fn next(work: &mut [u8], mem: &mut [u8], buf: &mut [u8]) -> Outcome {
+fn next(work: &mut [u8], mem: &mut [u8], buf: &mut [u8]) -> Verdict {
     let mut head = [0u8; HEAD];
     let got = io::read_full(STDIN_FILENO, &mut head);
     if got == 0 {
-        return Outcome::Ended;
+        return Verdict::Ended;
     }
     if got < HEAD {
-        return Outcome::CutOff;
+        return Verdict::CutOff;
     }
     rest(&head, work, mem, buf)
 }

@@ -15,7 +15,7 @@ use order::agrees;
 use ordering::BINDING_LIMIT;
 use records::MOST_LONGEST;
 use records::WORK_FACTOR;
-use replays::Outcome;
+use replays::Verdict;
 use replays::reads;
 
 // The bytes of a case before those written and the input.
@@ -40,40 +40,40 @@ fn case_of(head: &[u8; HEAD]) -> Case {
 }
 
 // Has the call answer a case, with a result buffer as long as the case says.
-fn judged(head: &[u8; HEAD], work: &mut [u8], wanted: &[u8], input: &[u8]) -> Outcome {
+fn judged(head: &[u8; HEAD], work: &mut [u8], wanted: &[u8], input: &[u8]) -> Verdict {
     let mut result = [0u8; MOST_RESULT];
     let n = number(head, 10, 1);
     replays::judged(agrees(case_of(head), work, input, wanted, &mut result[..n]))
 }
 
 // Reads what follows the head of a case, and has the call answer it.
-fn rest(head: &[u8; HEAD], work: &mut [u8], wanted: &mut [u8], buf: &mut [u8]) -> Outcome {
+fn rest(head: &[u8; HEAD], work: &mut [u8], wanted: &mut [u8], buf: &mut [u8]) -> Verdict {
     let count = number(head, 16, 1);
     let len = number(head, 17, 2);
     if count > wanted.len() {
-        return Outcome::CutOff;
+        return Verdict::CutOff;
     }
     if len > buf.len() {
-        return Outcome::CutOff;
+        return Verdict::CutOff;
     }
     if !reads(&mut wanted[..count]) {
-        return Outcome::CutOff;
+        return Verdict::CutOff;
     }
     if !reads(&mut buf[..len]) {
-        return Outcome::CutOff;
+        return Verdict::CutOff;
     }
     judged(head, work, &wanted[..count], &buf[..len])
 }
 
 // Reads the next case and has the call answer it.
-fn next(work: &mut [u8], buf: &mut [u8]) -> Outcome {
+fn next(work: &mut [u8], buf: &mut [u8]) -> Verdict {
     let mut head = [0u8; HEAD];
     let got = io::read_full(STDIN_FILENO, &mut head);
     if got == 0 {
-        return Outcome::Ended;
+        return Verdict::Ended;
     }
     if got < HEAD {
-        return Outcome::CutOff;
+        return Verdict::CutOff;
     }
     let mut wanted = [0u8; BINDING_LIMIT];
     rest(&head, work, &mut wanted, buf)

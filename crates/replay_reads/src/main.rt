@@ -6,7 +6,7 @@ mod reader;
 
 use libc::STDIN_FILENO;
 use reader::agrees;
-use replays::Outcome;
+use replays::Verdict;
 use replays::reads;
 
 // The number of one byte.
@@ -20,9 +20,9 @@ fn two(high: u8, low: u8) -> usize {
 }
 
 // Reads the input of a case into a buffer of its length, and has the reader answer it.
-fn judged(head: &[u8; 8], input: &mut [u8]) -> Outcome {
+fn judged(head: &[u8; 8], input: &mut [u8]) -> Verdict {
     if !reads(input) {
-        return Outcome::CutOff;
+        return Verdict::CutOff;
     }
     replays::judged(agrees(
         head[0],
@@ -34,18 +34,18 @@ fn judged(head: &[u8; 8], input: &mut [u8]) -> Outcome {
 }
 
 // Reads the next case and has the reader answer it.
-fn next(buf: &mut [u8]) -> Outcome {
+fn next(buf: &mut [u8]) -> Verdict {
     let mut head = [0; 8];
     let got = io::read_full(STDIN_FILENO, &mut head);
     if got == 0 {
-        return Outcome::Ended;
+        return Verdict::Ended;
     }
     if got < 8 {
-        return Outcome::CutOff;
+        return Verdict::CutOff;
     }
     let len = two(head[6], head[7]);
     if len > buf.len() {
-        return Outcome::CutOff;
+        return Verdict::CutOff;
     }
     judged(&head, &mut buf[..len])
 }

@@ -25,7 +25,7 @@ use Rattle.records.specs.Views.{SeesForm, SeesValue}
 use Rattle.records.specs.declared.FormView.{FormView}
 use Rattle.records.proofs.AnySexp.{mark-of}
 use Rattle.records.proofs.Views.{first-of, rest-of}
-use Rattle.walk.specs.Inventing.{Roomy, InventsSexp}
+use Rattle.walk.specs.DrawnMaps.{Roomy, InventsSexp}
 use Rattle.walk.specs.declared.Growth.{Growth}
 use Rattle.walk.specs.declared.Invented.the-variants.{Drawn}
 use Rattle.walk.proofs.MapLaws.{no-map}

@@ -1,7 +1,7 @@
 -- What the calls of a case ask of its input and of memory. Assumes nothing.
 use Prim.Native.Nat.{ℕ, _+_, _≤_}
 use lib.ListN.{length}
-use Rattle.names.specs.Answers.{max-counter}
+use Rattle.names.specs.CallAnswer.{max-counter}
 use Rattle.names.specs.Maps.{NameMap}
 use Rattle.names.specs.Names.{Bytes}
 use Rattle.names.specs.Segments.{At}

@@ -12,7 +12,7 @@ mod sexps;
 use libc::STDIN_FILENO;
 use names::bytes::number;
 use records::MOST_LONGEST;
-use replays::Outcome;
+use replays::Verdict;
 use replays::reads;
 use sexps::Case;
 use sexps::FACTOR;
@@ -43,7 +43,7 @@ fn case_of(head: &[u8; HEAD]) -> Case {
 }
 
 // Has the calls answer a case, whose result and input stand behind the map from these places on.
-fn judged(head: &[u8; HEAD], mem: &mut [u8], parts: &[u8], result: usize, input: usize) -> Outcome
+fn judged(head: &[u8; HEAD], mem: &mut [u8], parts: &[u8], result: usize, input: usize) -> Verdict
     requires { ⌜ (result ≤ input) × (input ≤ length (now parts)) ⌝ }
 {
     let map = &parts[..result];
@@ -52,28 +52,28 @@ fn judged(head: &[u8; HEAD], mem: &mut [u8], parts: &[u8], result: usize, input:
 }
 
 // Reads what follows the head of a case, and has the calls answer it.
-fn rest(head: &[u8; HEAD], mem: &mut [u8], buf: &mut [u8]) -> Outcome {
+fn rest(head: &[u8; HEAD], mem: &mut [u8], buf: &mut [u8]) -> Verdict {
     let result = number(head, 23, 2);
     let input = result + number(head, 25, 2);
     let end = input + number(head, 27, 2);
     if end > buf.len() {
-        return Outcome::CutOff;
+        return Verdict::CutOff;
     }
     if !reads(&mut buf[..end]) {
-        return Outcome::CutOff;
+        return Verdict::CutOff;
     }
     judged(head, mem, &buf[..end], result, input)
 }
 
 // Reads the next case and has the calls answer it.
-fn next(mem: &mut [u8], buf: &mut [u8]) -> Outcome {
+fn next(mem: &mut [u8], buf: &mut [u8]) -> Verdict {
     let mut head = [0u8; HEAD];
     let got = io::read_full(STDIN_FILENO, &mut head);
     if got == 0 {
-        return Outcome::Ended;
+        return Verdict::Ended;
     }
     if got < HEAD {
-        return Outcome::CutOff;
+        return Verdict::CutOff;
     }
     rest(&head, mem, buf)
 }

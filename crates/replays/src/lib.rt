@@ -7,7 +7,7 @@ use libc::STDOUT_FILENO;
 const FILL: u8 = 7;
 
 // What came of one case.
-pub enum Outcome {
+pub enum Verdict {
     Agrees,
     Differs,
     CutOff,
@@ -21,11 +21,11 @@ pub fn reads(buf: &mut [u8]) -> bool {
 }
 
 // Agrees, or differs.
-pub fn judged(agrees: bool) -> Outcome {
+pub fn judged(agrees: bool) -> Verdict {
     if agrees {
-        Outcome::Agrees
+        Verdict::Agrees
     } else {
-        Outcome::Differs
+        Verdict::Differs
     }
 }
 
@@ -46,15 +46,15 @@ fn all_agree(done: u64, kind: &[u8]) {
 }
 
 // Says what came of the case after `done` others of a kind, and answers whether to go on.
-pub fn goes_on(outcome: Outcome, done: u64, kind: &[u8]) -> bool {
+pub fn goes_on(outcome: Verdict, done: u64, kind: &[u8]) -> bool {
     match outcome {
-        Outcome::Agrees => {
+        Verdict::Agrees => {
             return true;
         }
-        Outcome::Ended => all_agree(done, kind),
-        Outcome::Differs => fault(done, kind, b"does not\n"),
-        Outcome::CutOff => fault(done, kind, b"is cut off\n"),
-        Outcome::Broken => fault(done, kind, b"is broken\n"),
+        Verdict::Ended => all_agree(done, kind),
+        Verdict::Differs => fault(done, kind, b"does not\n"),
+        Verdict::CutOff => fault(done, kind, b"is cut off\n"),
+        Verdict::Broken => fault(done, kind, b"is broken\n"),
     }
     false
 }

@@ -10,12 +10,12 @@ use Rattle.names.specs.declared.Refusal.{Refusal}
 use Rattle.names.proofs.Frames.{same-then, at-below, copied-at}
 use Rattle.names.proofs.Parts.{into}
 use Rattle.names.proofs.Places.{at-left, at-right, at-place, at-join}
-use Rattle.records.specs.Answer.{Gives}
+use Rattle.records.specs.StepAnswer.{Gives}
 use Rattle.records.specs.Records.{Helpers, []ʰ, _∷ʰ_}
 use Rattle.records.specs.declared.Step.{Step}
 use Rattle.records.specs.declared.Step.the-variants.{Refused as Unwritten}
 use Rattle.walk.specs.Arena.{outcome}
-use Rattle.walk.specs.FormWalks.{RestOf, rest-bytes, rest-room, helpers-room, EachFineHelper, FineRest, rest-by, headed, FineAfter, AfterReady, WalksAfter, RestReady, WalksRest, Comes}
+use Rattle.walk.specs.FormWalks.{RestOf, rest-bytes, rest-room, helpers-room, EachFineHelper, FineRest, rest-by, headed, FineAfter, AfterReady, WalksAfter, RestReady, WalksRest, ComesOut}
 use Rattle.walk.specs.Room.{room}
 use Rattle.walk.specs.Steps.{M, step}
 use Rattle.walk.specs.Walking.{Finishes}
@@ -144,7 +144,7 @@ module _ {k : Rest} {way : Way} {old : Bytes} {at : ℕ} {t : Task} (p : AfterRe
       run = rest-by F k way (t .depth - 1) (p .ready .m) tree
 
       -- what it answered
-      answer : Comes (rest-bytes k) F x free (length (rest-bytes k tree)) run (t .counter) 0 a
+      answer : ComesOut (rest-bytes k) F x free (length (rest-bytes k tree)) run (t .counter) 0 a
       answer =
           w .says (p .ready .m) (map-from at (cp .frame) (omega (arith, after-copies .1)) (omega (arith, after-copies .1)) (p .ready .map)) tree rest-kept
           (omega (arith, headed-length tree, p .ready .below)) (p .ready .good .fine)

@@ -11,7 +11,7 @@ use native.Mathlib.Omega.{arith}
 use lib.Dec.{leb, leb→le, le→leb}
 use lib.ListN.{length, take, drop, getD}
 use lib.Seq.{take-at}
-use Rattle.names.specs.Answers.{Result, accepted-answer, refused-answer, delivered, written, max-counter}
+use Rattle.names.specs.CallAnswer.{Result, accepted-answer, refused-answer, delivered, written, max-counter}
 use Rattle.names.specs.Names.{Bytes, ascii, same, name-limit, gensym}
 use Rattle.names.specs.Maps.{NameMap}
 use Rattle.names.specs.Refusals.{placeless}
@@ -30,7 +30,7 @@ use Rattle.records.proofs.Complete.{bindings-same}
 use Rattle.records.proofs.Opened.{Start, start}
 use Rattle.records.proofs.Readers.{Any, T-of, true-of}
 use Rattle.ordering.specs.Lawful.{_is-in_}
-use Rattle.ordering.specs.Toposort.{Outcome, ordered, deadlock}
+use Rattle.ordering.specs.Toposort.{Toposorted, ordered, deadlock}
 use Rattle.ordering.specs.Words.{toposort-assign-bindings}
 use Rattle.walk.specs.Steps.{M, Out, Event, made, done, refused, over-long, Visit, visits, ret, refuse, out-of-fuel, _>>=_, _>>_, after, step, child, further, add-to-sum, take-from-sum, fits, form-size, helper-size}
 use Rattle.walk.specs.Invent.{name-too-long, draw, invent-new-names-sexp, rename-in-cons-step}
@@ -270,7 +270,7 @@ module _ (F : ℕ) where
     unfolding rename-args-assign rename-args-ordered
     gives-rename-args-assign {z} {k} {l} {w} {h} {bs} {b} p = go (toposort-assign-bindings bs) refl
       where
-        go : (o : Outcome) → toposort-assign-bindings bs ≡ o
+        go : (o : Toposorted) → toposort-assign-bindings bs ≡ o
             → Gives z (BodyKept z k) (elim o as (λ _. M Body) [ deadlock _ ↦ refuse (deadlocked l) | ordered is ↦ rename-args-ordered F r l w h bs b is ])
         go (deadlock left) e = gives-refuse (deadlocked l)
         go (ordered is) e =

@@ -14,12 +14,12 @@ use Rattle.names.specs.declared.Place.{Place}
 use Rattle.names.specs.declared.Refusal.{Refusal}
 use Rattle.names.proofs.Frames.{same-refl}
 use Rattle.names.proofs.Places.{at-place, at-left, at-right, at-is, at-into-take}
-use Rattle.ordering.specs.Assign.{Let, Ordered}
+use Rattle.ordering.specs.Assign.{Let, OrdersBindings}
 use Rattle.ordering.specs.Needs.{outcome-of}
 use Rattle.ordering.specs.Toposort.{deadlock}
 use Rattle.ordering.specs.Words.{toposort-assign-bindings}
 use Rattle.ordering.specs.declared.Order.{Order}
-use Rattle.records.specs.Answer.{refuses, refused}
+use Rattle.records.specs.StepAnswer.{refuses, refused}
 use Rattle.records.specs.Limits.{most-longest}
 use Rattle.records.specs.Records.{mark-width, loc-width, Loc, loc-number, kind-field, byte, Kind, Assign, Body, BL, body-bytes, Bindings, bindings-bytes, bindings-count, list-of}
 use Rattle.records.specs.Valid.{IsLet, BodyFields}
@@ -78,8 +78,8 @@ module _ {mem : Bytes} {t : Task} (p : BodyReady (IsLet Assign) true mem t) wher
   loc-is = ap number-of (at-is (mark-width + 1) loc-width refl (sym (fine .valid .0 .0 .width)) loc-there)
 
   -- its order is known, or there is none
-  module _ {o : Order} (s : (k : Kind) (l : Loc) (w h : Bytes) (bs : Bindings) (b : Body) → Let (take (t .f) mem) k l w h bs b → Ordered (list-of bs) o) where
-    known : Ordered (list-of (view .bs)) o
+  module _ {o : Order} (s : (k : Kind) (l : Loc) (w h : Bytes) (bs : Bindings) (b : Body) → Let (take (t .f) mem) k l w h bs b → OrdersBindings (list-of bs) o) where
+    known : OrdersBindings (list-of (view .bs)) o
     known = s Assign (view .l) (view .w) (view .h) (view .bs) (view .e) let-there
 
     row-size : length (take (o .count) (o .row)) ≡ o .count

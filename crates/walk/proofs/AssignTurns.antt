@@ -17,10 +17,10 @@ use Rattle.records.specs.Lists.{joined, Each}
 use Rattle.records.specs.Parts.{ValidBinding}
 use Rattle.records.specs.Records.{Body, Binding, binding-bytes}
 use Rattle.walk.specs.Arena.{MapAt, outcome}
-use Rattle.walk.specs.AssignWalks.{Makes, made, stopped, AnyMade, AssignBinding, BindingReady, MakesBinding, at-all, binding-size, BindingsReady, MakesBindings}
+use Rattle.walk.specs.AssignWalks.{MakesRun, made, stopped, AnyMade, AssignBinding, BindingReady, MakesBinding, at-all, binding-size, BindingsReady, MakesBindings}
 use Rattle.walk.specs.Bodyforms.{Rules, walk, no-binding, rename-assign-binding, rename-assign-bindings}
 use Rattle.walk.specs.Draws.{binding-atoms, dbl}
-use Rattle.walk.specs.Inventing.{map-growth}
+use Rattle.walk.specs.DrawnMaps.{map-growth}
 use Rattle.walk.specs.Steps.{M, _>>=_}
 use Rattle.walk.specs.declared.Made.{Made}
 use Rattle.walk.specs.declared.Made.the-variants.{Done as Has, Refused as Not}
@@ -87,14 +87,14 @@ module _ {old : Bytes} {row starts : List ℕ} {t : Task} (p : BindingsReady old
 
   -- what is answered of the bindings that are known to stand there
   makes : {new : Bytes} {r : Made} → SameOutside old new (t .free - 2 * t .f) (length old)
-      → Makes (λ u. joined binding-bytes (u .1)) (λ u. length (u .1) ≡ length row) (t .f) (map-growth * t .f) (at-all binding-size (p .bs) row) new (λ n. t .free - n) (all-run row [] []) (t .counter) 0 r
+      → MakesRun (λ u. joined binding-bytes (u .1)) (λ u. length (u .1) ≡ length row) (t .f) (map-growth * t .f) (at-all binding-size (p .bs) row) new (λ n. t .free - n) (all-run row [] []) (t .counter) 0 r
       → MakesBindings old new row starts t r
   makes {new} {r} f x = record {
     frame = f;
     says = λ bs g b.
         let e = unique-bindings (p .bs) bs (each-valid (t .f) (t .depth) (p .bs) (p .fine)) (each-valid (t .f) (t .depth) bs g) (omega (arith, p .stand .many, b .many)) (p .stand .there) (b .there) in
         subst
-        (λ (cs : List Binding). Makes (λ u. joined binding-bytes (u .1)) (λ u. length (u .1) ≡ length row) (t .f) (map-growth * t .f) (at-all binding-size cs row) new (λ n. t .free - n)
+        (λ (cs : List Binding). MakesRun (λ u. joined binding-bytes (u .1)) (λ u. length (u .1) ≡ length row) (t .f) (map-growth * t .f) (at-all binding-size cs row) new (λ n. t .free - n)
         (rename-assign-bindings (t .f) rules cs row [] []) (t .counter) 0 r) e x;
   }
 
@@ -212,7 +212,7 @@ module _ {old : Bytes} {row starts : List ℕ} {t : Task} (p : BindingsReady old
       abbrev next-run : M (NameMap × Binding)
       next-run = rename-assign-binding (t .f) rules (l .m) next
 
-      said : Makes (λ u. binding-bytes (u .1)) AnyMade (t .f) (map + map-growth * length (binding-bytes next)) (length (binding-bytes next)) y (λ n. t .free - at) next-run c sum r
+      said : MakesRun (λ u. binding-bytes (u .1)) AnyMade (t .f) (map + map-growth * length (binding-bytes next)) (length (binding-bytes next)) y (λ n. t .free - at) next-run c sum r
       unfolding next-ready
       said = let q = next-ready .ready in s .says (l .m) (q .map) next (q .there) (q .below) fine
 

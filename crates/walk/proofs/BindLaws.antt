@@ -8,7 +8,7 @@ use lib.ListN.{length}
 use Rattle.names.specs.Names.{Bytes}
 use Rattle.names.proofs.Frames.{same-wider}
 use Rattle.names.proofs.Parts.{part, back, part-length, at-part, into}
-use Rattle.records.specs.Answer.{Gives}
+use Rattle.records.specs.StepAnswer.{Gives}
 use Rattle.records.specs.Records.{body-bytes}
 use Rattle.records.specs.declared.Step.{Step}
 use Rattle.walk.specs.Arena.{MapAt, outcome}

@@ -18,10 +18,10 @@ use Rattle.records.specs.Records.{head-width, loc-width, Loc, byte, Sexp, sexp-
 use Rattle.records.specs.Valid.{ValidLoc, ValidPattern, BindingFields, BindingNoMod, binding-lambda-depth}
 use Rattle.records.proofs.Places.{byte-there}
 use Rattle.walk.specs.Arena.{outcome}
-use Rattle.walk.specs.AssignWalks.{Makes, made, stopped, AnyMade, Shaped, AssignBinding, FineParts, inner, BindingReady, MakesBinding, ComplexReady, MakesComplex}
+use Rattle.walk.specs.AssignWalks.{MakesRun, made, stopped, AnyMade, Shaped, AssignBinding, FineParts, inner, BindingReady, MakesBinding, ComplexReady, MakesComplex}
 use Rattle.walk.specs.Bodyforms.{walk, rename-assign-binding}
 use Rattle.walk.specs.Draws.{atoms, sexp-atoms, pattern-atoms, binding-atoms}
-use Rattle.walk.specs.Inventing.{map-growth}
+use Rattle.walk.specs.DrawnMaps.{map-growth}
 use Rattle.walk.specs.Steps.{M, _>>=_}
 use Rattle.walk.specs.declared.Made.{Made}
 use Rattle.walk.specs.declared.Made.the-variants.{Done as Has, Refused as Not}
@@ -126,7 +126,7 @@ module _ {mem : Bytes} {n sum : ℕ} {t : Task} (p : BindingReady mem n sum t) w
 
   -- what is answered of the binding that is known to stand there
   makes : {new : Bytes} {r : Made} → SameOutside mem new (t .free) (length mem - t .map)
-      → Makes (λ u. binding-bytes (u .1)) AnyMade (t .f) (t .map + map-growth * length (binding-bytes (p .ready .tree))) (length (binding-bytes (p .ready .tree))) new (λ k. t .free)
+      → MakesRun (λ u. binding-bytes (u .1)) AnyMade (t .f) (t .map + map-growth * length (binding-bytes (p .ready .tree))) (length (binding-bytes (p .ready .tree))) new (λ k. t .free)
       (rename-assign-binding (t .f) (walk (t .f) (t .depth)) (p .ready .m) (p .ready .tree)) (t .counter) sum r → MakesBinding mem new sum t r
   makes f x = tells-of unique-fine-binding (p .ready) f x
 
@@ -222,7 +222,7 @@ module _ {mem : Bytes} {n sum : ℕ} {t : Task} (p : BindingReady mem n sum t) w
       abbrev seen-run : M (NameMap × Binding)
       seen-run = rename-assign-binding (t .f) (walk (t .f) (t .depth)) (p .ready .m) (BB (seen .l) (seen .nl) (Complex (seen .p)) (seen .e))
 
-      said : Makes (λ u. inner (u .1)) (Shaped (seen .l) (seen .nl)) (t .f) (t .map + map-growth * length (sexp-bytes (seen .p))) 0 y (λ k. t .free) seen-run (t .counter) sum r
+      said : MakesRun (λ u. inner (u .1)) (Shaped (seen .l) (seen .nl)) (t .f) (t .map + map-growth * length (sexp-bytes (seen .p))) 0 y (λ k. t .free) seen-run (t .counter) sum r
       unfolding complex-ready
       said = let q = complex-ready .ready in s .says (q .m) (q .map) parts (q .there) (q .below) (q .good) (seen .l) (seen .nl)
 

@@ -12,11 +12,11 @@ use Rattle.names.specs.Segments.{At, SameOutside, Filled, Movable}
 use Rattle.names.specs.declared.Refusal.{Refusal}
 use Rattle.names.proofs.Frames.{same-wider, same-then, copied-at}
 use Rattle.names.proofs.Parts.{part, back, part-length, at-part, into}
-use Rattle.records.specs.Answer.{Gives}
+use Rattle.records.specs.StepAnswer.{Gives}
 use Rattle.records.specs.Records.{Body, body-bytes}
 use Rattle.records.specs.declared.Step.{Step}
 use Rattle.records.specs.declared.Step.the-variants.{Done, Refused}
-use Rattle.records.proofs.Answers.{Made, made, unmade}
+use Rattle.records.proofs.StepAnswers.{Made, made, unmade}
 use Rattle.walk.specs.Arena.{outcome}
 use Rattle.walk.specs.Bodyforms.{args-then-in, walk}
 use Rattle.walk.specs.Draws.{atoms}

@@ -12,7 +12,7 @@ use Rattle.names.specs.declared.Refusal.{Refusal}
 use Rattle.names.proofs.Frames.{same-wider, same-then, copied-at}
 use Rattle.names.proofs.Parts.{part, back, part-length, at-part, into}
 use Rattle.walk.specs.Arena.{MapAt}
-use Rattle.walk.specs.FormWalks.{RestOf, rest-bytes, rest-records, rest-atoms, rest-by, RestReady, WalksRest, BothRestReady, WalksBothRest, Comes, came, stayed}
+use Rattle.walk.specs.FormWalks.{RestOf, rest-bytes, rest-records, rest-atoms, rest-by, RestReady, WalksRest, BothRestReady, WalksBothRest, ComesOut, came, stayed}
 use Rattle.walk.specs.Room.{room}
 use Rattle.walk.specs.Steps.{M}
 use Rattle.walk.specs.declared.Piece.{Piece}
@@ -102,10 +102,10 @@ module _ {k : Rest} {mem : Bytes} {sum : ℕ} {t : Task} (p : BothRestReady k me
     own-frame = same-wider (t .free) (length mem - t .map) (omega arith) (omega arith) (cut-frame mem 0 top (omega arith) (t .free) 0 (omega (arith, wide)) (s .frame))
 
     -- what they answered, said of the whole
-    own-told : Comes (rest-bytes k) (t .f) half (t .free) (length (rest-bytes k r)) (rest-by (t .f) k Own (t .depth) m r) (t .counter) sum a
+    own-told : ComesOut (rest-bytes k) (t .f) half (t .free) (length (rest-bytes k r)) (rest-by (t .f) k Own (t .depth) m r) (t .counter) sum a
     own-told =
         cut-comes mem 0 top (omega arith) (t .free) 0 (omega (arith, wide)) (s .frame) (t .free) (omega arith)
-        (subst (λ (run : M (RestOf k)). Comes (rest-bytes k) (t .f) y (t .free) (length (rest-bytes k r)) run (t .counter) sum a) (own-any (t .f) k (t .depth) [] m r)
+        (subst (λ (run : M (RestOf k)). ComesOut (rest-bytes k) (t .f) y (t .free) (length (rest-bytes k r)) run (t .counter) sum a) (own-any (t .f) k (t .depth) [] m r)
         (s .says [] no-map r there (p .ready .below) (p .ready .good)))
 
     -- they refuse
@@ -183,7 +183,7 @@ module _ {k : Rest} {mem : Bytes} {sum : ℕ} {t : Task} (p : BothRestReady k me
         further-frame = whole-frame half (t .free) w (t .map) (omega (arith, half-fits)) (v .frame)
 
         -- what they answered, said of the whole
-        further-told : Comes (rest-bytes k) (t .f) end (t .free + w) (length (rest-bytes k u)) (rest-by (t .f) k Further (t .depth) m u) c x b
+        further-told : ComesOut (rest-bytes k) (t .f) end (t .free + w) (length (rest-bytes k u)) (rest-by (t .f) k Further (t .depth) m u) c x b
         further-told =
             whole-comes half (t .free) w (t .map) (omega (arith, half-fits)) (v .frame) (t .free + w) refl
             (v .says m half-map u (into (own-came .out)) (omega (arith, own-came .wrote)) (own-made .fine))

@@ -12,7 +12,7 @@ use Rattle.names.specs.declared.Refusal.{Refusal}
 use Rattle.names.proofs.Frames.{same-wider, same-then, at-below, copied-at, movable-up}
 use Rattle.names.proofs.Parts.{into}
 use Rattle.names.proofs.Places.{at-place, at-left, at-right, at-join}
-use Rattle.records.specs.Answer.{Outcome, gives, refuses, Gives, refused}
+use Rattle.records.specs.StepAnswer.{Outcome, gives, refuses, Gives, refused}
 use Rattle.records.specs.Depth.{depth, bodies-depth, tail-depth}
 use Rattle.records.specs.Limits.{level-limit, lambda-limit}
 use Rattle.records.specs.Records.{Loc, byte, record-bytes, Body, BL, BQ, BV, BC, BM, BF, body-bytes, Bodies, []ᵇ, _∷ᵇ_, bodies-bytes, bodies-count, Tail, no-tail, tail, tail-bytes}

@@ -5,7 +5,7 @@ use native.Mathlib.Omega.{arith}
 use Prim.Native.Nat.{ℕ, zero, suc, _+_, _-_, _≤_, _<_}
 use Rattle.names.specs.Maps.{NameMap}
 use Rattle.names.specs.declared.Refusal.{Refusal}
-use Rattle.records.specs.Answer.{gives, refuses}
+use Rattle.records.specs.StepAnswer.{gives, refuses}
 use Rattle.records.specs.Records.{Loc, Body, BC, Bodies, []ᵇ, _∷ᵇ_, Tail, no-tail, tail}
 use Rattle.walk.specs.Arena.{outcome}
 use Rattle.walk.specs.Bodyforms.{each-body, call-tail, in-elements, rename-args-bodyform, rename-in-bodyform, walk}

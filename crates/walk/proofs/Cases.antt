@@ -10,7 +10,7 @@ use Rattle.names.specs.Names.{Bytes, ascii}
 use Rattle.records.specs.Records.{Loc, Sexp, SN, SC, SI, SA, Kind, Parallel, Sequential, Assign, Name, Complex, Body, BL, BV, BC, BM, BF, []ᵇ, _∷ᵇ_, no-tail, Binding, BB, []ʰ, CF, to-bodies, to-bindings, body-bytes, form-bytes}
 use Rattle.walk.specs.Steps.{Visit, events, names-made}
 use Rattle.walk.specs.Calls.{computing-all, whole-run, whole-call, children-call, children-visits}
-use Rattle.names.specs.Answers.{Result, name-call}
+use Rattle.names.specs.CallAnswer.{Result, name-call}
 use Rattle.ordering.specs.OrderCall.{order-call}
 
 -- a call, its counter and its input; `whole-in` has F and the length of the buffer first

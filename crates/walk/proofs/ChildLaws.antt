@@ -9,12 +9,12 @@ use lib.ListN.{length}
 use Rattle.names.specs.Maps.{NameMap}
 use Rattle.names.specs.Names.{Bytes}
 use Rattle.names.specs.declared.Refusal.{Refusal}
-use Rattle.records.specs.Answer.{gives, refuses, Gives}
+use Rattle.records.specs.StepAnswer.{gives, refuses, Gives}
 use Rattle.records.specs.declared.Step.{Step}
 use Rattle.records.specs.declared.Step.the-variants.{Done, Refused}
-use Rattle.records.proofs.Answers.{Made, made, unmade}
+use Rattle.records.proofs.StepAnswers.{Made, made, unmade}
 use Rattle.walk.specs.Arena.{outcome}
-use Rattle.walk.specs.FormWalks.{TreeOf, tree-bytes, tree-size, tree-rule, TreeReady, WalksTree, by-args, child-by, Comes, came, stayed, new-sum, Sumable, Counts, ChildReady, WalksChild}
+use Rattle.walk.specs.FormWalks.{TreeOf, tree-bytes, tree-size, tree-rule, TreeReady, WalksTree, by-args, child-by, ComesOut, came, stayed, new-sum, Sumable, AddsResult, ChildReady, WalksChild}
 use Rattle.walk.specs.Steps.{DoneWith, RefusedWith, over-long}
 use Rattle.walk.specs.declared.Child.{Child}
 use Rattle.walk.specs.declared.Piece.{Piece}
@@ -76,7 +76,7 @@ module _ {k : Child} {way : Way} {old : Bytes} {sum : ℕ} {t : Task} (p : Child
     told = walked .says (p .ready .m) (p .ready .map) (p .ready .tree) (p .ready .there) (p .ready .below) (p .ready .good)
 
     -- what comes of that tree is the child's answer
-    tells : {z : Piece} → Comes (tree-bytes k) (t .f) new (t .free) (length (tree-bytes k (p .ready .tree))) (child-by (t .f) k way (t .depth) (p .ready .m) (p .ready .tree)) (t .counter) sum z
+    tells : {z : Piece} → ComesOut (tree-bytes k) (t .f) new (t .free) (length (tree-bytes k (p .ready .tree))) (child-by (t .f) k way (t .depth) (p .ready .m) (p .ready .tree)) (t .counter) sum z
         → WalksChild k way old new sum t z
     tells x = tells-of (unique-tree k (t .f) (t .depth)) (p .ready) (walked .frame) x
 
@@ -100,14 +100,14 @@ module _ {k : Child} {way : Way} {old : Bytes} {sum : ℕ} {t : Task} (p : Child
       child-sumable = record { taken = λ z. omega (arith, known .read, p .taken z); small = omega (arith, short, p .held, p .ready .longest) }
 
       -- its result in the sum
-      pub child-counted : {z : Piece} → Counts way sum i w (t .f) d z → WalksChild k way old new sum t z
+      pub child-counted : {z : Piece} → AddsResult way sum i w (t .f) d z → WalksChild k way old new sum t z
       child-counted {z} n = tells (go (leb (new-sum way sum i w) (t .f)) refl)
         where
           same : new-sum way sum (length (tree-bytes k (p .ready .tree))) (length (tree-bytes k (known .u))) ≡ new-sum way sum i w
           same = cc (known .read, known .wrote)
 
           go : (b : Bool) → leb (new-sum way sum i w) (t .f) ≡ b
-              → Comes (tree-bytes k) (t .f) new (t .free) (length (tree-bytes k (p .ready .tree))) (child-by (t .f) k way (t .depth) (p .ready .m) (p .ready .tree)) (t .counter) sum z
+              → ComesOut (tree-bytes k) (t .f) new (t .free) (length (tree-bytes k (p .ready .tree))) (child-by (t .f) k way (t .depth) (p .ready .m) (p .ready .tree)) (t .counter) sum z
           go true h =
               let le : new-sum way sum i w ≤ t .f = leb-true _ _ h in
               came (known .u) d (new-sum way sum i w)

@@ -7,7 +7,7 @@ use Rattle.names.specs.Names.{Bytes}
 use Rattle.names.specs.Segments.{At, SameOutside}
 use Rattle.names.specs.declared.Refusal.{Refusal}
 use Rattle.names.proofs.Parts.{part, back}
-use Rattle.walk.specs.FormWalks.{Comes, came, stayed}
+use Rattle.walk.specs.FormWalks.{ComesOut, came, stayed}
 use Rattle.walk.specs.Steps.{M, DoneWith, RefusedWith}
 use Rattle.walk.specs.declared.Piece.{Piece}
 use Rattle.walk.specs.declared.Piece.the-variants.{Done as Took, Refused as Stopped}
@@ -17,13 +17,13 @@ use Rattle.walk.proofs.Wholes.{cut-at}
 module _ {A : Type 0} {bytes : A → Bytes} {F : ℕ} where
   -- the answer of a part of k bytes from a on
   pub cut-comes : (xs : Bytes) (a k : ℕ) → a + k ≤ length xs → {y : Bytes} (q len : ℕ) → q + len ≤ k → SameOutside (part xs a k) y q (length (part xs a k) - len)
-      → {n c x : ℕ} {run : M A} {r : Piece} (p : ℕ) → a + q ≡ p → Comes bytes F y q n run c x r → Comes bytes F (back xs a k y) p n run c x r
+      → {n c x : ℕ} {run : M A} {r : Piece} (p : ℕ) → a + q ≡ p → ComesOut bytes F y q n run c x r → ComesOut bytes F (back xs a k y) p n run c x r
   cut-comes xs a k le q len fit s p e (came u c′ x′ g l o h) = came u c′ x′ g l o (cut-at xs a k le q len fit s p e h)
   cut-comes xs a k le q len fit s p e (stayed z g o) = stayed z g o
 
   -- of the part from a on to the end of memory
   pub whole-comes : (xs : Bytes) (a : ℕ) {y : Bytes} (q len : ℕ) → a + q + len ≤ length xs → SameOutside (from xs a) y q (length (from xs a) - len)
-      → {n c x : ℕ} {run : M A} {r : Piece} (p : ℕ) → a + q ≡ p → Comes bytes F y q n run c x r → Comes bytes F (rejoin xs a y) p n run c x r
+      → {n c x : ℕ} {run : M A} {r : Piece} (p : ℕ) → a + q ≡ p → ComesOut bytes F y q n run c x r → ComesOut bytes F (rejoin xs a y) p n run c x r
   whole-comes xs a q len fit s = cut-comes xs a (length xs - a) (omega arith) q len (omega arith) s
 
 -- what an answer `Took i w s d` says
@@ -37,7 +37,7 @@ pub record Came {A : Type 0} (bytes : A → Bytes) (F : ℕ) (new : Bytes) (free
 
 module _ {A : Type 0} {bytes : A → Bytes} {F : ℕ} {new : Bytes} {free n : ℕ} {run : M A} {c x : ℕ} {r : Piece} where
   -- so an answer says
-  pub came-as : (i w s d : ℕ) → r ≡ Took i w s d → Comes bytes F new free n run c x r → Came bytes F new free n run c x i w s d
+  pub came-as : (i w s d : ℕ) → r ≡ Took i w s d → ComesOut bytes F new free n run c x r → Came bytes F new free n run c x i w s d
   came-as i w s d e (came u c′ x′ g l q o) =
       let a : c′ ≡ d = cc in
       let b : x′ ≡ s = cc in
@@ -45,6 +45,6 @@ module _ {A : Type 0} {bytes : A → Bytes} {F : ℕ} {new : Bytes} {free n : �
   came-as i w s d e (stayed z g q) = let y : _≡_ {A = ℕ} 0 1 = cc in absurd (omega arith)
 
   -- what a refusal says
-  pub stayed-as : (z : Refusal) → r ≡ Stopped z → Comes bytes F new free n run c x r → RefusedWith (run c x) z
+  pub stayed-as : (z : Refusal) → r ≡ Stopped z → ComesOut bytes F new free n run c x r → RefusedWith (run c x) z
   stayed-as z e (came u c′ x′ g l q o) = let y : _≡_ {A = ℕ} 0 1 = cc in absurd (omega arith)
   stayed-as z e (stayed y g q) = let a : y ≡ z = cc in rw a at g

@@ -8,7 +8,7 @@ use native.Mathlib.Omega.{arith}
 use lib.Dec.{leb}
 use lib.ListN.{length}
 use Rattle.names.specs.Names.{Bytes}
-use Rattle.names.specs.Answers.{Result, accepted-answer, refused-answer, delivered, written}
+use Rattle.names.specs.CallAnswer.{Result, accepted-answer, refused-answer, delivered, written}
 use Rattle.names.specs.Refusals.{place-at, placeless}
 use Rattle.names.specs.declared.Refusal.{Refusal}
 use Rattle.records.specs.Records.{loc-number, form-bytes, helper-bytes}

@@ -12,14 +12,14 @@ use Rattle.names.specs.declared.Refusal.{Refusal}
 use Rattle.names.proofs.Frames.{same-refl, same-then, at-below, filled-at}
 use Rattle.names.proofs.Places.{at-whole, at-own, at-place, at-is, at-left, at-right}
 use Rattle.names.proofs.Segments.{filled-then}
-use Rattle.records.specs.Answer.{Gives, gave, refused}
+use Rattle.records.specs.StepAnswer.{Gives, gave, refused}
 use Rattle.records.specs.Depth.{depth}
 use Rattle.records.specs.Records.{head-width, mark-width, Loc, Parallel, Sequential, Pattern, Body, BL, BQ, BV, BC, BM, BF, Binding, BB, []ᵍ, _∷ᵍ_, byte, kind-field, list-of, loc-width, pattern-field, body-bytes, binding-bytes, bindings-bytes, bindings-count, record-bytes}
 use Rattle.records.specs.Valid.{ValidLoc, BodyFields, BindingFields, lambda-depth, ValidBody, IsLet}
 use Rattle.records.specs.declared.Family.the-variants.{Binding as a-binding}
 use Rattle.records.specs.declared.Step.{Step}
 use Rattle.records.specs.declared.Step.the-variants.{Done, Refused}
-use Rattle.records.proofs.Answers.{made, unmade}
+use Rattle.records.proofs.StepAnswers.{made, unmade}
 use Rattle.records.specs.Lists.{joined, Each}
 use Rattle.records.specs.Parts.{Skips, family-part, ValidBinding}
 use Rattle.records.proofs.Lists.{list-count, list-bytes, list-valid}

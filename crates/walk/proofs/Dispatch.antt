@@ -10,7 +10,7 @@ use Rattle.names.specs.Names.{Bytes, ascii, same}
 use Rattle.names.specs.Segments.{At}
 use Rattle.names.proofs.Frames.{same-wider}
 use Rattle.ordering.specs.Listing.{body-index}
-use Rattle.records.specs.Answer.{Outcome, Gives}
+use Rattle.records.specs.StepAnswer.{Outcome, Gives}
 use Rattle.records.specs.Records.{mark-width, Body, BL, BQ, BV, BC, BM, BF, body-bytes}
 use Rattle.records.specs.Scan.{mark-index, body-marks}
 use Rattle.records.specs.Valid.{ValidBody}

@@ -8,7 +8,7 @@ use borrow.Author.Tests.{le-leb, lt-leb, leb-true}
 use Prim.Native.Nat.{ℕ, _+_, _-_, _≤_, _<_}
 use lib.Dec.{leb}
 use Rattle.names.specs.declared.Refusal.{Refusal}
-use Rattle.records.specs.Answer.{gives, refuses}
+use Rattle.records.specs.StepAnswer.{gives, refuses}
 use Rattle.walk.specs.Arena.{outcome}
 use Rattle.walk.specs.Steps.{M, Out, Event, done, refused, DoneWith, RefusedWith, _>>=_, _>>_, after, ret, over-long, add-to-sum, take-from-sum, child, further}
 use Rattle.walk.proofs.RunLaws.{Neutral, with-sum, outcome-after, ended, ended-stops, onward, bind-onward}

@@ -11,10 +11,10 @@ use Rattle.names.specs.Names.{Bytes}
 use Rattle.names.specs.Segments.{At}
 use Rattle.names.specs.declared.Refusal.{Refusal}
 use Rattle.names.proofs.Places.{at-place, at-left, at-right, at-join}
-use Rattle.records.specs.Answer.{Outcome, gives, refuses, Gives, gave, refused}
+use Rattle.records.specs.StepAnswer.{Outcome, gives, refuses, Gives, gave, refused}
 use Rattle.records.specs.declared.Step.{Step}
 use Rattle.records.specs.declared.Step.the-variants.{Done, Refused}
-use Rattle.records.proofs.Answers.{made, unmade}
+use Rattle.records.proofs.StepAnswers.{made, unmade}
 use Rattle.walk.specs.Arena.{fitting}
 use Rattle.walk.specs.Steps.{over-long}
 

@@ -6,7 +6,7 @@ use lib.ListN.{length, take, drop}
 use Rattle.names.specs.Maps.{NameMap}
 use Rattle.names.specs.Names.{Bytes}
 use Rattle.names.specs.Segments.{At}
-use Rattle.records.specs.Answer.{Outcome, Gives}
+use Rattle.records.specs.StepAnswer.{Outcome, Gives}
 use Rattle.records.specs.Records.{mark-width, Helper, HC, HM, HD, HN, HR, helper-bytes}
 use Rattle.records.specs.Scan.{mark-index, helper-marks}
 use Rattle.records.specs.Views.{SeesConstant, SeesMacro, SeesFunction, SeesNamespace}

@@ -10,7 +10,7 @@ use lib.ListN.{length, length-append}
 use Rattle.names.specs.Maps.{NameMap}
 use Rattle.names.specs.Names.{Bytes, ascii, name-field}
 use Rattle.names.specs.Segments.{At}
-use Rattle.records.specs.Answer.{Outcome}
+use Rattle.records.specs.StepAnswer.{Outcome}
 use Rattle.records.specs.Depth.{depth, helper-depth, helpers-depth, form-depth}
 use Rattle.records.specs.Limits.{level-limit, lambda-limit}
 use Rattle.records.specs.Records.{Loc, record-bytes, byte, Sexp, sexp-bytes, Body, body-bytes, Helper, HC, HM, HD, HN, helper-bytes, Helpers, []ʰ, _∷ʰ_, helpers-bytes, Form, CF, form-bytes}

@@ -8,7 +8,7 @@ use mathlib.Core.Option.{Option}
 use Rattle.names.specs.Names.{Bytes}
 use Rattle.names.specs.Maps.{NameMap}
 use Rattle.records.specs.Records.{Loc, Parallel, Sequential, Assign, Name, Complex, Body, BL, BQ, BV, BC, BM, BF, Bodies, []ᵇ, _∷ᵇ_, Tail, no-tail, tail, Binding, BB, list-of}
-use Rattle.ordering.specs.Toposort.{Outcome, ordered, deadlock}
+use Rattle.ordering.specs.Toposort.{Toposorted, ordered, deadlock}
 use Rattle.ordering.specs.Words.{toposort-assign-bindings}
 use Rattle.walk.specs.Steps.{M, Out, Event, done, refused, Visit, refuse, out-of-fuel, _>>=_, after, step, child, further, fits}
 use Rattle.walk.specs.Bodyforms.{each-body, call-tail, each-binding-body, Rules, args-then-in, rename-args-let, rename-args-desugared, rename-args-sequential, rename-assign-binding, rename-assign-bindings, rename-args-ordered, rename-args-assign, rename-args-bodyform, in-elements, rename-in-bodyform, body-rules, walk, deadlocked, log-assign, logged, rename-in-quoted, rename-in-value}
@@ -135,7 +135,7 @@ module _ (F : ℕ) where
     unfolding rename-args-assign rename-args-ordered
     less-rename-args-assign l k h bs b = go (toposort-assign-bindings bs)
       where
-        go : (o : Outcome)
+        go : (o : Toposorted)
             → Less {A = Body} (elim o as (λ _. M Body) [ deadlock _ ↦ refuse (deadlocked l) | ordered is ↦ rename-args-ordered F r l k h bs b is ]) (elim o as (λ _. M Body) [ deadlock _ ↦ refuse (deadlocked l) | ordered is ↦ rename-args-ordered F r′ l k h bs b is ])
         go (deadlock l′) = less-refl _
         go (ordered is) = less-bind (less-rename-assign-bindings bs is [] []) λ u. less-bind (less-args-then-in (u .0) b) λ b′. less-refl _

@@ -15,7 +15,7 @@ use Rattle.records.specs.Records.{head-width, Loc, Sexp, SN, SC, SI, SQ, SA, se
 use Rattle.records.specs.Sexps.{nilp, loc-of, is-atom, only}
 use Rattle.records.specs.Valid.{SexpFields, cons-depth}
 use Rattle.records.specs.Parts.{Skips, fields-part}
-use Rattle.walk.specs.Plans.{substitution, Lone, HeadAt, IsAtom, SingleAt, single-none, single-one, Singles, keeps, quotes, goes-alone, goes-on, PlansPair}
+use Rattle.walk.specs.Plans.{substitution, OnlyElement, HeadAt, IsAtom, OnlyOfTailAt, single-none, single-one, SeesOnlyOfTail, keeps, quotes, goes-alone, goes-on, PlansPair}
 use Rattle.walk.specs.RenameInCons.{requote, rename-in-cons, rename-in-qq, only-in-cons, only-in-qq}
 use Rattle.walk.specs.declared.Plan.the-variants.{Kept, Requoted, Alone, Parts}
 use Rattle.walk.specs.declared.Quasi.{Quasi}
@@ -149,23 +149,23 @@ record Tail (h u : Sexp) (x : ℕ) : Type 0 where
   place : x ≡ head-width + length (sexp-bytes h) + head-width
 
 module _ {s : Bytes} {x : ℕ} (l : Loc) (h u : Sexp) (fine : SexpFields (SC l h u)) (a : At s 0 (sexp-bytes (SC l h u))) where
-  no-tail : Singles s x → x ≡ 0 → only u ≡ none
+  no-tail : SeesOnlyOfTail s x → x ≡ 0 → only u ≡ none
   no-tail o e = go (o .singles l h u fine a)
     where
-      go : SingleAt h u x → only u ≡ none
+      go : OnlyOfTailAt h u x → only u ≡ none
       go (single-none q n) = n
       go (single-one k y z i n p) = absurd (omega arith)
 
-  tail : Singles s x → (x ≡ 0 → ⊥) → Tail h u x
+  tail : SeesOnlyOfTail s x → (x ≡ 0 → ⊥) → Tail h u x
   tail o e = go (o .singles l h u fine a)
     where
-      go : SingleAt h u x → Tail h u x
+      go : OnlyOfTailAt h u x → Tail h u x
       go (single-none q n) = absurd (e q)
       go (single-one k y z i n p) = record { k = k; y = y; z = z; is = i; ends = n; place = p }
 
   -- it goes on alone
   lone : (rule : NameMap → Sexp → Sexp) (next : Quasi) (j : Tail h u x) → ((m : NameMap) → rule m (SC l h (SC (j .k) (j .y) (j .z))) ≡ substitution next m (j .y))
-      → Lone rule next s (SC l h u) x
+      → OnlyElement rule next s (SC l h u) x
   lone rule next j makes =
       let P : Sexp → Type 0 = λ v. SexpFields (SC l h v) in
       let Q : Sexp → Type 0 = λ v. At s 0 (sexp-bytes (SC l h v)) in
@@ -186,7 +186,7 @@ module _ {s : Bytes} where
   plans-on x =
       record { pairs = λ l h u fine a. goes-on refl record { l = l; h = h; u = u; is = refl; makes = λ m. qq-on true m l h u (x l h u fine a) } }
 
-  module _ {n : ℕ} (x : Heads s "unquote" true) (o : Singles s n) where
+  module _ {n : ℕ} (x : Heads s "unquote" true) (o : SeesOnlyOfTail s n) where
     pub plans-unquote-none : n ≡ 0 → PlansPair (rename-in-qq true) s Parts
     plans-unquote-none e =
         record {
@@ -215,7 +215,7 @@ module _ (qq : Bool) {s : Bytes} where
             goes-on refl record { l = l; h = h; u = u; is = refl; makes = λ m. cons-on qq m l h u (x l h u fine a) (y l h u fine a) (z l h u fine a) };
       }
 
-  module _ {n e : ℕ} (x : Heads s "q" false) (o : Singles s n) (size : Skips fields-part s e) where
+  module _ {n e : ℕ} (x : Heads s "q" false) (o : SeesOnlyOfTail s n) (size : Skips fields-part s e) where
     module _ (y : Heads s "quote" true) where
       pub plans-quote-none : n ≡ 0 → PlansPair (rename-in-cons qq) s (Kept e)
       plans-quote-none d =

@@ -14,7 +14,7 @@ use Rattle.names.proofs.Places.{at-place, at-left, at-right, at-join}
 use Rattle.records.specs.Records.{Helper, helper-bytes, Helpers, []ʰ, _∷ʰ_, helpers-bytes, helpers-count}
 use Rattle.walk.specs.Arena.{MapAt}
 use Rattle.walk.specs.Draws.{helper-atoms, helpers-atoms, dbl}
-use Rattle.walk.specs.FormWalks.{FineHelper, EachFineHelper, FineHelpers, helpers-room, by-args, helpers-by, child-by, Comes, came, stayed, ChildReady, WalksChild, HelpersReady, WalksHelpers}
+use Rattle.walk.specs.FormWalks.{FineHelper, EachFineHelper, FineHelpers, helpers-room, by-args, helpers-by, child-by, ComesOut, came, stayed, ChildReady, WalksChild, HelpersReady, WalksHelpers}
 use Rattle.walk.specs.Room.{room}
 use Rattle.walk.specs.Steps.{M, DoneWith, RefusedWith, _>>=_, ret}
 use Rattle.walk.specs.Walking.{Ready}
@@ -120,7 +120,7 @@ turns-end {way} {count} {sum} {t} {old} {mem} {at} {to} {held} {c} {i} x le =
     tells-of (unique-helpers (t .f) (t .depth) count) (x .asked .ready) (x .frame) (end (x .left) refl (omega (arith, x .many)))
   where
     end : (left : Helpers) → x .left ≡ left → helpers-count left ≡ 0
-        → Comes helpers-bytes (t .f) mem (t .free) (length (helpers-bytes (x .asked .ready .tree))) (helpers-by (t .f) way (t .depth) (x .asked .ready .m) (x .asked .ready .tree)) (t .counter) sum
+        → ComesOut helpers-bytes (t .f) mem (t .free) (length (helpers-bytes (x .asked .ready .tree))) (helpers-by (t .f) way (t .depth) (x .asked .ready .m) (x .asked .ready .tree)) (t .counter) sum
         (Took at (to - t .free) held c)
     end []ʰ e z =
         let b = x .bytes []ʰ ∙ append-nil (x .made) in
@@ -241,7 +241,7 @@ module _ {way : Way} {count sum : ℕ} {t : Task} {old mem : Bytes} {at to held 
     run = child-by (t .f) Helperform way (t .depth) (p .m) (one .h)
 
     -- what it answered, said of the whole
-    told : Comes helper-bytes (t .f) end to (length (helper-bytes (one .h))) run c held r
+    told : ComesOut helper-bytes (t .f) end to (length (helper-bytes (one .h))) run c held r
     told = whole-comes mem at (to - at) (t .map) fits (s .frame) to (omega (arith, turn-low)) (s .says (p .m) part-map (one .h) (into (one .here)) (omega (arith, low, x .place)) (one .fine))
 
     -- it is refused

@@ -11,14 +11,14 @@ use Rattle.names.specs.declared.Refusal.{Refusal}
 use Rattle.names.proofs.Frames.{same-then, at-below, copied-at, movable-up}
 use Rattle.names.proofs.Parts.{into}
 use Rattle.names.proofs.Places.{at-place}
-use Rattle.records.specs.Answer.{Outcome, gives, refuses, Gives, refused}
+use Rattle.records.specs.StepAnswer.{Outcome, gives, refuses, Gives, refused}
 use Rattle.records.specs.Limits.{most-longest}
 use Rattle.records.specs.Records.{Loc, Sexp, Body, BL, BQ, BV, BC, BM, BF, sexp-bytes, body-bytes}
 use Rattle.records.specs.Views.{SeesLambda, LambdaParted, lambda-head}
 use Rattle.records.specs.declared.LambdaView.{LambdaView}
 use Rattle.records.specs.declared.Step.{Step}
 use Rattle.records.specs.declared.Step.the-variants.{Done, Refused}
-use Rattle.records.proofs.Answers.{Made, made, unmade}
+use Rattle.records.proofs.StepAnswers.{Made, made, unmade}
 use Rattle.walk.specs.Arena.{MapAt, outcome}
 use Rattle.walk.specs.Bodyforms.{walk, rename-in-bodyform}
 use Rattle.walk.specs.Draws.{sexp-atoms, atoms, dbl, counter-most}
@@ -103,7 +103,7 @@ seen p s = see s (p .tree) (p .good) (p .there) (p .below) (p .map) (p .room) (p
 
 -- the tasks of the captures, and of what follows them
 abbrev pub captures-task : Task → LambdaView → Task
-captures-task t v = record { free = t .free + v .binders + t .f - v .captures; map = t .map; f = t .f; depth = t .depth - 1; counter = t .counter }
+captures-task t v = record { free = t .free + v .«capture_args» + t .f - v .captures; map = t .map; f = t .f; depth = t .depth - 1; counter = t .counter }
 
 abbrev pub captured-task : Task → ℕ → Task
 captured-task t c = record { free = t .free; map = t .map; f = t .f; depth = t .depth; counter = c }
@@ -120,8 +120,8 @@ module _ {mem : Bytes} {v : LambdaView} {t : Task} (p : BodyReady IsLambda false
 
   -- places and lengths
   pub record Widths : Type 0 where
-    pub binders : v .binders ≡ length (lambda-head (h .l) (h .w))
-    pub captures : v .captures ≡ v .binders + length (sexp-bytes (h .ca))
+    pub capture-args : v .«capture_args» ≡ length (lambda-head (h .l) (h .w))
+    pub captures : v .captures ≡ v .«capture_args» + length (sexp-bytes (h .ca))
     pub short : v .captures + length (body-bytes (h .c)) ≤ t .f
     pub below : v .captures + length (body-bytes (h .c)) ≤ t .free
     pub room : t .free + (8 * t .f + room (t .f) (t .depth - 1)) + t .map ≤ length mem
@@ -131,10 +131,10 @@ module _ {mem : Bytes} {v : LambdaView} {t : Task} (p : BodyReady IsLambda false
   pub widths : Widths
   widths =
       let z = lambda-size (h .l) (h .w) (h .ca) (h .c) (h .a) (h .e) in
-      let b = h .parted .parted .binders-at in
+      let b = h .parted .parted .capture-args-at in
       let q = h .parted .captures-at in
       record {
-        binders = b;
+        capture-args = b;
         captures = q;
         short = omega (arith, h .fine .short);
         below = omega (arith, h .below);
@@ -143,18 +143,18 @@ module _ {mem : Bytes} {v : LambdaView} {t : Task} (p : BodyReady IsLambda false
       }
 
   -- the head can be copied
-  pub head-moves : Movable mem 0 (t .free) (v .binders)
+  pub head-moves : Movable mem 0 (t .free) (v .«capture_args»)
   head-moves = let z = widths in movable-up (omega (arith, z .captures, z .below)) (omega (arith, z .captures, z .short, z .room))
 
   draws : dbl (t .depth - 1) (atoms (h .c)) + (sexp-atoms (h .a) + (dbl (t .depth - 1) (atoms (h .e)) + dbl (t .depth - 1) (atoms (h .e)))) ≤ dbl (t .depth) (atoms (h .c) + (sexp-atoms (h .a) + atoms (h .e)))
   draws = lambda-draws (t .depth) (h .c) (h .a) (h .e) (omega (arith, widths .levels))
 
   -- the head stands at free
-  module _ {o : Bytes} (f : Filled mem o (t .free) (drop 0 mem) (v .binders)) where
+  module _ {o : Bytes} (f : Filled mem o (t .free) (drop 0 mem) (v .«capture_args»)) where
     captures-here : At o (v .captures) (body-bytes (h .c))
     captures-here =
         let z = widths in
-        at-below (f .frame) (at-place (v .captures) (omega (arith, z .binders, z .captures)) (stand .captures)) (omega (arith, z .below))
+        at-below (f .frame) (at-place (v .captures) (omega (arith, z .capture-args, z .captures)) (stand .captures)) (omega (arith, z .below))
 
     map-here : MapAt (from o (v .captures)) (t .map) (p .m)
     map-here = let z = widths in map-from (v .captures) (f .frame) (omega (arith, z .captures, z .short, z .room)) (omega (arith, z .below, z .room)) (h .map)
@@ -183,7 +183,7 @@ module _ {mem : Bytes} {v : LambdaView} {t : Task} (p : BodyReady IsLambda false
       one = rejoin o (v .captures) y
 
       abbrev behind : ℕ
-      behind = t .free + v .binders + t .f
+      behind = t .free + v .«capture_args» + t .f
 
       fit-one : v .captures + (behind - v .captures) + t .map ≤ length o
       fit-one = let z = widths in omega (arith, f .frame .size, z .captures, z .below, z .short, z .room)
@@ -205,7 +205,7 @@ module _ {mem : Bytes} {v : LambdaView} {t : Task} (p : BodyReady IsLambda false
 
       -- the BF with captures u
       abbrev with-captures : Body → Captured
-      with-captures u = record { loc = h .l; keyword = h .w; binders = h .ca; captures = h .c; args = h .a; body = h .e; made = u }
+      with-captures u = record { loc = h .l; keyword = h .w; capture-args = h .ca; captures = h .c; args = h .a; body = h .e; made = u }
 
       -- they are refused
       pub lambda-refused : (q : Refusal) → r ≡ Refused q → Walks IsLambda false mem one t (Refused q)
@@ -226,10 +226,10 @@ module _ {mem : Bytes} {v : LambdaView} {t : Task} (p : BodyReady IsLambda false
         made-short = omega (arith, captures-made .wrote, rule-short (t .f) false (t .depth - 1) (p .m) (h .c) (t .counter) (captures-made .is))
 
         -- what follows them is asked this
-        pub captured-ready : CapturedReady one (v .binders) (v .args) (v .body) x (captured-task t c₁)
+        pub captured-ready : CapturedReady one (v .«capture_args») (v .args) (v .body) x (captured-task t c₁)
         captured-ready =
             let z = widths in
-            let b = z .binders in
+            let b = z .capture-args in
             let q = z .captures in
             let w = z .below in
             record {
@@ -257,7 +257,7 @@ module _ {mem : Bytes} {v : LambdaView} {t : Task} (p : BodyReady IsLambda false
             map-after-both = let z = widths in map-after both-frame (omega (arith, z .room)) (h .map)
 
         -- and its answer is that of the BF
-        pub lambda-answers : {new : Bytes} {a : Step} → WalksCaptured one new (v .binders) (v .args) (v .body) x (captured-task t c₁) a → Walks IsLambda false mem new t a
+        pub lambda-answers : {new : Bytes} {a : Step} → WalksCaptured one new (v .«capture_args») (v .args) (v .body) x (captured-task t c₁) a → Walks IsLambda false mem new t a
         unfolding captured-ready
         lambda-answers {new} {a} k =
             let n : 1 ≤ t .depth = omega (arith, widths .levels) in

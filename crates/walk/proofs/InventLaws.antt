@@ -8,17 +8,17 @@ use borrow.Author.Tests.{le-leb, lt-leb}
 use lib.ListN.{length, take, drop}
 use lib.Seq.{take-at}
 use Rattle.names.specs.Maps.{NameMap}
-use Rattle.names.specs.Answers.{written}
+use Rattle.names.specs.CallAnswer.{written}
 use Rattle.names.specs.Names.{Bytes, ascii, gensym, name-limit, name-width, same}
 use Rattle.names.specs.declared.Refusal.{Refusal}
 use Rattle.names.specs.Segments.{SameOutside, Filled}
 use Rattle.names.proofs.Frames.{same-refl, same-then, same-wider}
 use Rattle.names.proofs.Parts.{part-length}
 use Rattle.names.proofs.Places.{at-is}
-use Rattle.records.specs.Answer.{gives, refuses}
+use Rattle.records.specs.StepAnswer.{gives, refuses}
 use Rattle.records.specs.Records.{Loc, SA}
 use Rattle.walk.specs.Invent.{name-too-long, draw, invent-new-names-sexp}
-use Rattle.walk.specs.Inventing.{between, entry, EntryRoom, NameRoom, NameFrom, growth, Grew, Grown, Draws, Pushes, InventsAtom, atom-size}
+use Rattle.walk.specs.DrawnMaps.{between, entry, EntryRoom, NameRoom, NameFrom, growth, Grew, Grown, Draws, Pushes, InventsAtom, atom-size}
 use Rattle.walk.specs.Arena.{outcome}
 use Rattle.walk.specs.Steps.{M, _>>=_, ret}
 use Rattle.walk.specs.declared.Growth.{Growth}

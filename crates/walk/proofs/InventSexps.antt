@@ -10,7 +10,7 @@ use Rattle.names.specs.Segments.{At, SameOutside}
 use Rattle.names.proofs.Frames.{at-below, same-wider}
 use Rattle.names.proofs.Parts.{into, part, back, part-length, same-back}
 use Rattle.names.proofs.Places.{at-place}
-use Rattle.records.specs.Answer.{Outcome, gives, refuses}
+use Rattle.records.specs.StepAnswer.{Outcome, gives, refuses}
 use Rattle.records.specs.Parts.{Skips, fields-part}
 use Rattle.records.specs.Records.{Loc, Sexp, SC, SA, sexp-bytes}
 use Rattle.records.specs.Valid.{SexpFields, cons-depth}
@@ -21,7 +21,7 @@ use Rattle.records.specs.declared.SexpView.the-variants.{Pair, Atom}
 use Rattle.records.proofs.Views.{first-of, rest-of}
 use Rattle.walk.specs.Arena.{MapAt, outcome}
 use Rattle.walk.specs.Invent.{invent-new-names-sexp}
-use Rattle.walk.specs.Inventing.{map-growth, atom-size, Roomy, NameRoom, growth, Grown, Draws, InventsAtom, InventsFrom, InventsSexp}
+use Rattle.walk.specs.DrawnMaps.{map-growth, atom-size, Roomy, NameRoom, growth, Grown, Draws, InventsAtom, InventsFrom, InventsSexp}
 use Rattle.walk.specs.Steps.{ret}
 use Rattle.walk.specs.declared.Growth.{Growth}
 use Rattle.walk.specs.declared.Invented.{Invented}

@@ -12,7 +12,7 @@ use Rattle.names.specs.declared.Refusal.{Refusal}
 use Rattle.names.proofs.Frames.{same-then, same-wider, at-below, copied-at}
 use Rattle.names.proofs.Parts.{into}
 use Rattle.names.proofs.Places.{at-left, at-right, at-place, at-join}
-use Rattle.records.specs.Answer.{Outcome, gives, Gives, refused}
+use Rattle.records.specs.StepAnswer.{Outcome, gives, Gives, refused}
 use Rattle.records.specs.Depth.{depth}
 use Rattle.records.specs.Records.{Loc, Sexp, sexp-bytes, Body, BL, BQ, BV, BC, BM, BF, body-bytes}
 use Rattle.records.specs.Valid.{ValidSexp, BodyFields, lambda-depth, NoMod}

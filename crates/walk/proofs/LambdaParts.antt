@@ -13,7 +13,7 @@ use Rattle.names.specs.declared.Refusal.{Refusal}
 use Rattle.names.proofs.Frames.{same-wider, same-then, at-below, at-above, copied-at, movable-up}
 use Rattle.names.proofs.Parts.{into}
 use Rattle.names.proofs.Places.{at-left, at-right, at-join, at-place}
-use Rattle.records.specs.Answer.{Outcome, gives, refuses, Gives, refused}
+use Rattle.records.specs.StepAnswer.{Outcome, gives, refuses, Gives, refused}
 use Rattle.records.specs.Depth.{depth}
 use Rattle.records.specs.Limits.{cons-limit, most-longest}
 use Rattle.records.specs.Records.{Loc, Sexp, Body, BF, sexp-bytes, body-bytes, record-bytes}
@@ -21,7 +21,7 @@ use Rattle.records.specs.Valid.{ValidSexp, BodyFields, NoMod, lambda-depth}
 use Rattle.records.specs.Views.{lambda-head}
 use Rattle.records.specs.declared.Step.{Step}
 use Rattle.records.specs.declared.Step.the-variants.{Done, Refused}
-use Rattle.records.proofs.Answers.{unmade}
+use Rattle.records.proofs.StepAnswers.{unmade}
 use Rattle.walk.specs.Arena.{MapAt, Asks, Held, Substitutes, fitting, outcome}
 use Rattle.walk.specs.Bodyforms.{walk, args-then-in}
 use Rattle.walk.specs.Draws.{sexp-atoms, atoms, dbl, counter-most}
@@ -63,7 +63,7 @@ lambda-size l w ca c a b =
 -- where they stand
 pub record PartsAt (mem : Bytes) (p : ℕ) (l : Loc) (w : Bytes) (ca : Sexp) (c : Body) (a : Sexp) (b : Body) : Type 0 where
   pub head : At mem p (lambda-head l w)
-  pub binders : At mem (p + length (lambda-head l w)) (sexp-bytes ca)
+  pub capture-args : At mem (p + length (lambda-head l w)) (sexp-bytes ca)
   pub captures : At mem (p + length (lambda-head l w) + length (sexp-bytes ca)) (body-bytes c)
   pub args : At mem (p + length (lambda-head l w) + length (sexp-bytes ca) + length (body-bytes c)) (sexp-bytes a)
   pub body : At mem (p + length (lambda-head l w) + length (sexp-bytes ca) + length (body-bytes c) + length (sexp-bytes a)) (body-bytes b)
@@ -76,7 +76,7 @@ parts-at {mem} {p} {l} {w} {ca} {c} {a} {b} at =
     let r₃ = at-right (body-bytes c) (sexp-bytes a ++ body-bytes b) r₂ in
     record {
       head = at-left (lambda-head l w) (sexp-bytes ca ++ (body-bytes c ++ (sexp-bytes a ++ body-bytes b))) h;
-      binders = at-left (sexp-bytes ca) (body-bytes c ++ (sexp-bytes a ++ body-bytes b)) r₁;
+      capture-args = at-left (sexp-bytes ca) (body-bytes c ++ (sexp-bytes a ++ body-bytes b)) r₁;
       captures = at-left (body-bytes c) (sexp-bytes a ++ body-bytes b) r₂;
       args = at-left (sexp-bytes a) (body-bytes b) r₃;
       body = at-right (sexp-bytes a) (body-bytes b) r₃;
@@ -87,12 +87,12 @@ parts-join : {mem : Bytes} {p : ℕ} {l : Loc} {w : Bytes} {ca : Sexp} {c : Body
 parts-join {mem} {p} {l} {w} {ca} {c} {a} {b} x =
     subst (At mem p) (sym (lambda-split l w ca c a b))
     (at-join (lambda-head l w) (sexp-bytes ca ++ (body-bytes c ++ (sexp-bytes a ++ body-bytes b))) (x .head)
-    (at-join (sexp-bytes ca) (body-bytes c ++ (sexp-bytes a ++ body-bytes b)) (x .binders)
+    (at-join (sexp-bytes ca) (body-bytes c ++ (sexp-bytes a ++ body-bytes b)) (x .capture-args)
     (at-join (body-bytes c) (sexp-bytes a ++ body-bytes b) (x .captures) (at-join (sexp-bytes a) (body-bytes b) (x .args) (x .body)))))
 
 -- what they are
 pub record FineParts (F d : ℕ) (ca : Sexp) (c : Body) (a : Sexp) (b : Body) : Type 0 where
-  pub binders : ValidSexp ca
+  pub capture-args : ValidSexp ca
   pub captures : Fine AnyBody F (d - 1) c
   pub body : Fine AnyBody F (d - 1) b
   pub levels : 2 ≤ d
@@ -103,7 +103,7 @@ unfolding BodyFields depth lambda-depth NoMod
 fine-parts {F} {d} {l} {w} {ca} {c} {a} {b} f =
     let z = lambda-size l w ca c a b in
     record {
-      binders = f .valid .0 .2;
+      capture-args = f .valid .0 .2;
       captures =
           record {
             valid = (f .valid .0 .3, omega (arith, f .valid .1), omega (arith, f .valid .2));
@@ -139,22 +139,22 @@ lambda-draws d c a b le =
 
 -- the run from the captures on
 module _ (F n : ℕ) (m : NameMap) (k : Captured) (c x : ℕ) where
-  abbrev new-binders : Sexp
-  new-binders = rename-in-cons false m (k .binders)
+  abbrev new-capture-args : Sexp
+  new-capture-args = rename-in-cons false m (k .capture-args)
 
   -- 7 where the capture args do not fit beside the captures
-  over-binders : F < x + length (sexp-bytes new-binders) → outcome (step F body-size (from-sum x (after-captures F (walk F n) m k)) c 0) ≡ refuses over-long
+  over-capture-args : F < x + length (sexp-bytes new-capture-args) → outcome (step F body-size (from-sum x (after-captures F (walk F n) m k)) c 0) ≡ refuses over-long
   unfolding after-captures
-  over-binders lt = step-refuses F body-size (from-sum x (after-captures F (walk F n) m k)) c 0 (substitute-over F false m (k .binders) _ c x lt)
+  over-capture-args lt = step-refuses F body-size (from-sum x (after-captures F (walk F n) m k)) c 0 (substitute-over F false m (k .capture-args) _ c x lt)
 
   -- else what both rules give of the body
-  module _ (s : ℕ) (e : s ≡ x + length (sexp-bytes new-binders)) (le : s ≤ F) where
+  module _ (s : ℕ) (e : s ≡ x + length (sexp-bytes new-capture-args)) (le : s ≤ F) where
     abbrev with-body : Body → Body
-    with-body u = BF (k .loc) (k .keyword) new-binders (k .made) (k .args) u
+    with-body u = BF (k .loc) (k .keyword) new-capture-args (k .made) (k .args) u
 
     on-to-body : outcome (after-captures F (walk F n) m k c x) ≡ outcome ((args-then-in F (walk F n) m (k .body) >>= λ u. ret (with-body u)) c s)
     unfolding after-captures
-    on-to-body = substitute-gives F false m (k .binders) _ c x (omega arith) ∙ ap (λ (y : ℕ). outcome ((args-then-in F (walk F n) m (k .body) >>= λ u. ret (with-body u)) c y)) (sym e)
+    on-to-body = substitute-gives F false m (k .capture-args) _ c x (omega arith) ∙ ap (λ (y : ℕ). outcome ((args-then-in F (walk F n) m (k .body) >>= λ u. ret (with-body u)) c y)) (sym e)
 
     body-refuses : {q : Refusal} → ((j : Body → M Body) → outcome ((args-then-in F (walk F n) m (k .body) >>= j) c s) ≡ refuses q)
         → outcome (step F body-size (from-sum x (after-captures F (walk F n) m k)) c 0) ≡ refuses q
@@ -178,23 +178,23 @@ pub setting : {mem : Bytes} {at args body x : ℕ} {t : Task} (p : CapturedReady
 setting p = record { good = p .good; there = p .there; below = p .below; map = p .map; fits = p .room }
 
 -- the tasks of the capture args and of the body
-abbrev pub binders-task : Task → ℕ → ℕ → Task
-binders-task t at x = record { free = t .free + at - at; map = t .map; f = t .f - x; depth = cons-limit; counter = t .counter }
+abbrev pub capture-args-task : Task → ℕ → ℕ → Task
+capture-args-task t at x = record { free = t .free + at - at; map = t .map; f = t .f - x; depth = cons-limit; counter = t .counter }
 
 abbrev pub both-task : Task → ℕ → ℕ → ℕ → ℕ → ℕ → ℕ → Task
 both-task t at args body x w c = record { free = t .free + at + w + x + (body - args) - body; map = t .map; f = t .f; depth = t .depth - 1; counter = c }
 
 module _ {mem : Bytes} {at args body x : ℕ} {t : Task} {k : Captured} {m : NameMap} (h : Setting mem at args body x t k m) where
-  stand : PartsAt mem 0 (k .loc) (k .keyword) (k .binders) (k .captures) (k .args) (k .body)
+  stand : PartsAt mem 0 (k .loc) (k .keyword) (k .capture-args) (k .captures) (k .args) (k .body)
   stand = parts-at (h .there)
 
-  fine : FineParts (t .f) (t .depth) (k .binders) (k .captures) (k .args) (k .body)
+  fine : FineParts (t .f) (t .depth) (k .capture-args) (k .captures) (k .args) (k .body)
   fine = fine-parts (h .good .fine)
 
   -- the places and lengths of the parts
   pub record Widths : Type 0 where
     pub sum : body + length (body-bytes (k .body)) ≡ length (lambda-bytes k)
-    pub args-at : args ≡ at + length (sexp-bytes (k .binders)) + length (body-bytes (k .captures))
+    pub args-at : args ≡ at + length (sexp-bytes (k .capture-args)) + length (body-bytes (k .captures))
     pub body-at : body ≡ args + length (sexp-bytes (k .args))
     pub short : body + length (body-bytes (k .body)) ≤ t .f
     pub below : body + length (body-bytes (k .body)) ≤ t .free
@@ -206,36 +206,36 @@ module _ {mem : Bytes} {at args body x : ℕ} {t : Task} {k : Captured} {m : Nam
   pub widths : Widths
   widths =
       let q = h .good .parted in
-      let z = lambda-size (k .loc) (k .keyword) (k .binders) (k .captures) (k .args) (k .body) in
+      let z = lambda-size (k .loc) (k .keyword) (k .capture-args) (k .captures) (k .args) (k .body) in
       record {
-        sum = omega (arith, q .binders-at, q .args-at, q .body-at);
+        sum = omega (arith, q .capture-args-at, q .args-at, q .body-at);
         args-at = q .args-at;
         body-at = q .body-at;
-        short = omega (arith, q .binders-at, q .args-at, q .body-at, h .good .fine .short);
-        below = omega (arith, q .binders-at, q .args-at, q .body-at, h .below);
+        short = omega (arith, q .capture-args-at, q .args-at, q .body-at, h .good .fine .short);
+        below = omega (arith, q .capture-args-at, q .args-at, q .body-at, h .below);
         room = omega (arith, h .fits, room-down (t .f) (t .depth) (fine .levels));
         held = h .good .held;
         levels = fine .levels;
       }
 
   -- the parts that are read
-  binders-here : At mem at (sexp-bytes (k .binders))
-  binders-here = at-place at (omega (arith, h .good .parted .binders-at)) (stand .binders)
+  capture-args-here : At mem at (sexp-bytes (k .capture-args))
+  capture-args-here = at-place at (omega (arith, h .good .parted .capture-args-at)) (stand .capture-args)
 
   args-here : At mem args (sexp-bytes (k .args))
-  args-here = at-place args (omega (arith, h .good .parted .binders-at, h .good .parted .args-at)) (stand .args)
+  args-here = at-place args (omega (arith, h .good .parted .capture-args-at, h .good .parted .args-at)) (stand .args)
 
   body-here : At mem body (body-bytes (k .body))
-  body-here = at-place body (omega (arith, h .good .parted .binders-at, h .good .parted .args-at, h .good .parted .body-at)) (stand .body)
+  body-here = at-place body (omega (arith, h .good .parted .capture-args-at, h .good .parted .args-at, h .good .parted .body-at)) (stand .body)
 
   -- what Substitute is asked of the capture args
-  pub binders-asks : Asks sexp-bytes (Held cons-limit) (from mem at) (binders-task t at x)
-  binders-asks =
+  pub capture-args-asks : Asks sexp-bytes (Held cons-limit) (from mem at) (capture-args-task t at x)
+  capture-args-asks =
       let w = widths in
-      asks-part at (k .binders) (record { fields = fine .binders .0; conses = fine .binders .1 }) binders-here (omega arith) (h .map) (omega arith)
+      asks-part at (k .capture-args) (record { fields = fine .capture-args .0; conses = fine .capture-args .1 }) capture-args-here (omega arith) (h .map) (omega arith)
 
   -- the capture args are made
-  module _ {y : Bytes} {r : Step} (s : Substitutes (rename-in-cons false) (from mem at) y (binders-task t at x) r) where
+  module _ {y : Bytes} {r : Step} (s : Substitutes (rename-in-cons false) (from mem at) y (capture-args-task t at x) r) where
     abbrev one : Bytes
     one = rejoin mem at y
 
@@ -246,27 +246,27 @@ module _ {mem : Bytes} {at args body x : ℕ} {t : Task} {k : Captured} {m : Nam
     one-frame = part-frame at fit-one s (t .free + at) (t .free + at + t .f) (omega arith) (omega arith)
 
     abbrev by-map : Sexp
-    by-map = rename-in-cons false m (k .binders)
+    by-map = rename-in-cons false m (k .capture-args)
 
-    binders-give : Gives sexp-bytes one (t .free + at) (length (sexp-bytes (k .binders))) (fitting sexp-bytes (t .f - x) (t .counter) by-map) r
-    binders-give = let w = widths in part-gives at fit-one s (t .free + at) (omega arith) (h .map) (k .binders) binders-here (omega arith) (fine .binders .0)
+    capture-args-give : Gives sexp-bytes one (t .free + at) (length (sexp-bytes (k .capture-args))) (fitting sexp-bytes (t .f - x) (t .counter) by-map) r
+    capture-args-give = let w = widths in part-gives at fit-one s (t .free + at) (omega arith) (h .map) (k .capture-args) capture-args-here (omega arith) (fine .capture-args .0)
 
     abbrev whole-run : Outcome Body
     whole-run = outcome (step (t .f) body-size (from-sum x (after-captures (t .f) (walk (t .f) (t .depth - 1)) m k)) (t .counter) 0)
 
-    binders-refused : (q : Refusal) → r ≡ Refused q → whole-run ≡ refuses q
-    binders-refused q e =
+    capture-args-refused : (q : Refusal) → r ≡ Refused q → whole-run ≡ refuses q
+    capture-args-refused q e =
         let w = widths in
-        let z = refused-long sexp-bytes (t .f - x) (t .counter) by-map q (unmade q e binders-give) in
-        over-binders (t .f) (t .depth - 1) m k (t .counter) x (omega (arith, z .long)) ∙ ap refuses (sym (z .is))
+        let z = refused-long sexp-bytes (t .f - x) (t .counter) by-map q (unmade q e capture-args-give) in
+        over-capture-args (t .f) (t .depth - 1) m k (t .counter) x (omega (arith, z .long)) ∙ ap refuses (sym (z .is))
 
     -- and fit
     module _ (i w c : ℕ) (e : r ≡ Done i w c) where
-      binders-made : Given sexp-bytes one (t .free + at) (length (sexp-bytes (k .binders))) (t .f - x) (t .counter) by-map i w c
-      binders-made = given (t .f - x) (t .counter) by-map i w c e binders-give
+      capture-args-made : Given sexp-bytes one (t .free + at) (length (sexp-bytes (k .capture-args))) (t .f - x) (t .counter) by-map i w c
+      capture-args-made = given (t .f - x) (t .counter) by-map i w c e capture-args-give
 
       pub made-fits : w + x ≤ t .f
-      made-fits = let z = widths in omega (arith, binders-made .wrote, binders-made .short)
+      made-fits = let z = widths in omega (arith, capture-args-made .wrote, capture-args-made .short)
 
       captures-here : At one (t .free + at + t .f) (body-bytes (k .made))
       captures-here = at-above one-frame (h .good .out) (omega arith)
@@ -285,8 +285,8 @@ module _ {mem : Bytes} {at args body x : ℕ} {t : Task} {k : Captured} {m : Nam
             let g = h .good .wrote in
             copied-at (t .free + at + t .f) (t .free + at + w) f₁ (captures-move .target) captures-here (omega arith) (omega arith) (omega arith)
 
-        binders-out : At two (t .free + at) (sexp-bytes by-map)
-        binders-out = at-below (f₁ .frame) (binders-made .out) (omega (arith, binders-made .wrote))
+        capture-args-out : At two (t .free + at) (sexp-bytes by-map)
+        capture-args-out = at-below (f₁ .frame) (capture-args-made .out) (omega (arith, capture-args-made .wrote))
 
         -- what stands below the room for the result
         kept-two : {p : ℕ} {bs : Bytes} → At mem p bs → p + length bs ≤ t .free + at → At two p bs
@@ -338,7 +338,7 @@ module _ {mem : Bytes} {at args body x : ℕ} {t : Task} {k : Captured} {m : Nam
                       map = map-three;
                       lone = λ e. let q : _≡_ {A = ℕ} 0 1 = cc in absurd (omega arith);
                       room = omega (arith, three-frame .size, made-fits, z .args-at, z .body-at, z .short, z .below, z .room);
-                      counts = omega (arith, counts, binders-made .counter);
+                      counts = omega (arith, counts, capture-args-made .counter);
                       longest = longest;
                     };
                 held = made-fits;
@@ -364,12 +364,12 @@ module _ {mem : Bytes} {at args body x : ℕ} {t : Task} {k : Captured} {m : Nam
             body-leads : Leads body-bytes AnyBody (t .f) four upto (length (body-bytes (k .body))) (args-then-in (t .f) (walk (t .f) (t .depth - 1)) m (k .body)) (t .counter) (w + x) r₂
             body-leads =
                 let z = widths in
-                subst (λ (j : ℕ). Leads body-bytes AnyBody (t .f) four upto (length (body-bytes (k .body))) (args-then-in (t .f) (walk (t .f) (t .depth - 1)) m (k .body)) j (w + x) r₂) (binders-made .counter)
+                subst (λ (j : ℕ). Leads body-bytes AnyBody (t .f) four upto (length (body-bytes (k .body))) (args-then-in (t .f) (walk (t .f) (t .depth - 1)) m (k .body)) j (w + x) r₂) (capture-args-made .counter)
                 (whole-leads three body (upto - body) (t .map) fit-four (s₂ .frame) upto (omega (arith, z .below))
                 (s₂ .says m map-three (k .body) (into (kept-three body-here (omega (arith, z .below)))) (omega (arith, z .below)) (fine .body)))
 
             sum-is : w + x ≡ x + length (sexp-bytes by-map)
-            sum-is = omega (arith, binders-made .wrote)
+            sum-is = omega (arith, capture-args-made .wrote)
 
             body-refused : (q : Refusal) → r₂ ≡ Stopped q → whole-run ≡ refuses q
             body-refused q e₂ = body-refuses (t .f) (t .depth - 1) m k (t .counter) x (w + x) sum-is made-fits (halted q e₂ body-leads)
@@ -387,8 +387,8 @@ module _ {mem : Bytes} {at args body x : ℕ} {t : Task} {k : Captured} {m : Nam
                   omega (
                     arith,
                     lambda-size (k .loc) (k .keyword) by-map (k .made) (k .args) (body-led .u),
-                    h .good .parted .binders-at,
-                    binders-made .wrote,
+                    h .good .parted .capture-args-at,
+                    capture-args-made .wrote,
                     h .good .wrote,
                     z .body-at,
                     body-led .wrote,
@@ -402,15 +402,15 @@ module _ {mem : Bytes} {at args body x : ℕ} {t : Task} {k : Captured} {m : Nam
 
               result-out : At four (t .free) (body-bytes result)
               result-out =
-                  let b = h .good .parted .binders-at in
+                  let b = h .good .parted .capture-args-at in
                   let z = widths in
                   let g = h .good .wrote in
-                  let n = binders-made .wrote in
+                  let n = capture-args-made .wrote in
                   let a = z .body-at in
                   parts-join
                   record {
                     head = below-four (kept-three (h .good .head) (omega arith)) (omega arith);
-                    binders = at-place (t .free + length (lambda-head (k .loc) (k .keyword))) (omega arith) (below-four (at-below (f₂ .frame) binders-out (omega arith)) (omega arith));
+                    capture-args = at-place (t .free + length (lambda-head (k .loc) (k .keyword))) (omega arith) (below-four (at-below (f₂ .frame) capture-args-out (omega arith)) (omega arith));
                     captures =
                         at-place (t .free + length (lambda-head (k .loc) (k .keyword)) + length (sexp-bytes by-map)) (omega arith)
                         (below-four (at-below (f₂ .frame) captures-out (omega arith)) (omega arith));
@@ -435,14 +435,14 @@ module _ {mem : Bytes} {at args body x : ℕ} {t : Task} (p : CapturedReady mem 
   setting-of : (m : NameMap) → MapAt mem (t .map) m → (k : Captured) → At mem 0 (lambda-bytes k) → length (lambda-bytes k) ≤ t .free → FineCaptured mem at args body x t k → Setting mem at args body x t k m
   setting-of m map k there below good = record { good = good; there = there; below = below; map = map; fits = p .room }
 
-  module _ {y : Bytes} {r : Step} (s : Substitutes (rename-in-cons false) (from mem at) y (binders-task t at x) r) where
+  module _ {y : Bytes} {r : Step} (s : Substitutes (rename-in-cons false) (from mem at) y (capture-args-task t at x) r) where
     -- the capture args are too long
     pub captured-refused : (q : Refusal) → r ≡ Refused q → WalksCaptured mem (rejoin mem at y) at args body x t (Refused q)
     captured-refused q e =
         let z = widths (setting p) in
         record {
           frame = same-wider (t .free) (length mem - t .map) (omega arith) (omega (arith, z .args-at, z .body-at, z .short, z .room)) (one-frame (setting p) s);
-          says = λ m map k there below good. refused q (binders-refused (setting-of m map k there below good) s q e) refl;
+          says = λ m map k there below good. refused q (capture-args-refused (setting-of m map k there below good) s q e) refl;
         }
 
     module _ (i w c : ℕ) (e : r ≡ Done i w c) {two three : Bytes} (f₁ : Filled (rejoin mem at y) two (t .free + at + w) (drop (t .free + at + t .f) (rejoin mem at y)) x)

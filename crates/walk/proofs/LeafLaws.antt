@@ -9,7 +9,7 @@ use Rattle.names.specs.Names.{Bytes, ascii}
 use Rattle.names.specs.Segments.{At, SameOutside, Filled}
 use Rattle.names.specs.declared.Refusal.{Refusal}
 use Rattle.names.proofs.Frames.{same-refl, same-then, at-below, copied-at}
-use Rattle.records.specs.Answer.{Outcome, Gives, refused}
+use Rattle.records.specs.StepAnswer.{Outcome, Gives, refused}
 use Rattle.records.specs.Records.{mark-width, Loc, Sexp, Body, BL, BQ, BV, BC, BM, BF, Form, sexp-bytes, body-bytes, record-bytes}
 use Rattle.records.specs.Valid.{SexpFields, BodyFields}
 use Rattle.records.specs.declared.Step.{Step}

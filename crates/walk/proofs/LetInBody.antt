@@ -12,14 +12,14 @@ use Rattle.names.specs.declared.Refusal.{Refusal}
 use Rattle.names.proofs.Frames.{same-wider, same-then, at-below, movable-up}
 use Rattle.names.proofs.Parts.{into}
 use Rattle.names.proofs.Places.{at-place, at-join}
-use Rattle.records.specs.Answer.{Outcome, Gives}
+use Rattle.records.specs.StepAnswer.{Outcome, Gives}
 use Rattle.records.specs.Lists.{joined}
 use Rattle.records.specs.Records.{Loc, Kind, pattern-field, Body, BL, body-bytes, Binding, binding-bytes, to-bindings, list-of}
 use Rattle.records.specs.Views.{SeesLet}
 use Rattle.records.specs.declared.LetView.{LetView}
 use Rattle.records.specs.declared.Step.{Step}
 use Rattle.records.specs.declared.Step.the-variants.{Done, Refused}
-use Rattle.records.proofs.Answers.{Made as Given, made as was-made, unmade}
+use Rattle.records.proofs.StepAnswers.{Made as Given, made as was-made, unmade}
 use Rattle.walk.specs.Arena.{outcome}
 use Rattle.walk.specs.Bodyforms.{each-binding-body, rename-in-bodyform}
 use Rattle.walk.specs.Draws.{atoms, inside-of, dbl}

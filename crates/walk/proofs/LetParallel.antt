@@ -10,7 +10,7 @@ use Rattle.names.specs.Names.{Bytes, ascii}
 use Rattle.names.specs.Segments.{At, SameOutside}
 use Rattle.names.specs.declared.Refusal.{Refusal}
 use Rattle.names.proofs.Frames.{same-then, same-wider, at-below}
-use Rattle.records.specs.Answer.{Outcome, refuses, Gives}
+use Rattle.records.specs.StepAnswer.{Outcome, refuses, Gives}
 use Rattle.records.specs.Depth.{binding-depth}
 use Rattle.records.specs.Lists.{joined, Each}
 use Rattle.records.specs.Parts.{ValidBinding}

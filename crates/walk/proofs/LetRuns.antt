@@ -6,7 +6,7 @@ use Prim.Native.Nat.{ℕ, _+_, _≤_, _<_}
 use lib.ListN.{length}
 use Rattle.names.specs.Maps.{NameMap}
 use Rattle.names.specs.declared.Refusal.{Refusal}
-use Rattle.records.specs.Answer.{gives, refuses}
+use Rattle.records.specs.StepAnswer.{gives, refuses}
 use Rattle.records.specs.Depth.{list-depth}
 use Rattle.records.specs.Records.{Pattern, Body, body-bytes, Binding, BB, binding-bytes}
 use Rattle.walk.specs.Arena.{outcome}

@@ -10,8 +10,8 @@ use Rattle.names.specs.Segments.{At, SameOutside}
 use Rattle.names.specs.declared.Refusal.{Refusal}
 use Rattle.names.proofs.Frames.{same-refl, same-then, same-wider, at-below, at-above}
 use Rattle.names.proofs.Places.{at-place, at-left, at-right, at-join}
-use Rattle.records.specs.Answer.{refuses, Gives}
-use Rattle.records.proofs.Answers.{Made as Given, made as was-made, unmade}
+use Rattle.records.specs.StepAnswer.{refuses, Gives}
+use Rattle.records.proofs.StepAnswers.{Made as Given, made as was-made, unmade}
 use Rattle.records.specs.Lists.{joined, Each}
 use Rattle.records.specs.Parts.{Past, pattern-part}
 use Rattle.records.specs.Records.{Pattern, pattern-field, Body, body-bytes, Binding, BB, binding-bytes}

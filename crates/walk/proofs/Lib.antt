@@ -5,7 +5,7 @@ pub mod Substitutes
 pub mod Fits
 pub mod Pairs
 pub mod PlanLaws
-pub mod Onlys
+pub mod ProperLists
 pub mod HeadLaws
 pub mod QuoteLaws
 pub mod MapLaws

@@ -10,7 +10,7 @@ use Prim.Native.Nat.{ℕ, zero, suc, _+_, _-_, _≤_, _<_, max}
 use native.Mathlib.Omega.{arith}
 use lib.Dec.{leb}
 use lib.ListN.{length, getD}
-use Rattle.names.specs.Answers.{Result, accepted-answer, refused-answer, delivered, written}
+use Rattle.names.specs.CallAnswer.{Result, accepted-answer, refused-answer, delivered, written}
 use Rattle.names.specs.Names.{Bytes, ascii, same, name-limit, gensym}
 use Rattle.names.specs.Maps.{NameMap}
 use Rattle.names.specs.Refusals.{placeless}
@@ -25,7 +25,7 @@ use Rattle.records.proofs.Exact.{form-read-back, helper-read-back, bindings-cou
 use Rattle.records.proofs.Readers.{Any}
 use Rattle.records.proofs.Opened.{OpenedFrom, Start, start}
 use Rattle.ordering.specs.Lawful.{_is-in_}
-use Rattle.ordering.specs.Toposort.{Outcome, ordered, deadlock}
+use Rattle.ordering.specs.Toposort.{Toposorted, ordered, deadlock}
 use Rattle.ordering.specs.Words.{toposort-assign-bindings}
 use Rattle.walk.specs.Steps.{M, Out, Event, made, done, refused, over-long, Visit, visits, events, ret, refuse, _>>=_, _>>_, after, step, child, further, add-to-sum, take-from-sum, fits}
 use Rattle.walk.specs.Invent.{name-too-long, draw, invent-new-names-sexp, rename-in-cons-step}
@@ -282,7 +282,7 @@ module _ (F : ℕ) where
     unfolding rename-args-assign
     runs-rename-args-assign l k h bs b x y = go (toposort-assign-bindings bs) refl
       where
-        go : (o : Outcome) → toposort-assign-bindings bs ≡ o
+        go : (o : Toposorted) → toposort-assign-bindings bs ≡ o
             → Runs (dbl (suc d) (list-atoms bs + atoms b)) (Small (1 + max (list-depth bs) (depth b)) (list-atoms bs + atoms b)) (elim o as (λ _. M Body) [ deadlock _ ↦ refuse (deadlocked l) | ordered is ↦ rename-args-ordered F r l k h bs b is ])
         go (deadlock left) q = runs-deadlock l
         go (ordered is) q = runs-rename-args-ordered l k h bs b is q x y

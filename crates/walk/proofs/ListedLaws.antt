@@ -12,7 +12,7 @@ use Rattle.names.proofs.Parts.{into}
 use Rattle.names.proofs.Places.{at-place, at-get, at-right, at-join, at-whole}
 use Rattle.records.specs.Records.{Helpers, helpers-bytes, helpers-count}
 use Rattle.walk.specs.Arena.{MapAt}
-use Rattle.walk.specs.FormWalks.{FineHelpers, helpers-by, Comes, came, stayed, HelpersReady, WalksHelpers, RestReady, WalksRest}
+use Rattle.walk.specs.FormWalks.{FineHelpers, helpers-by, ComesOut, came, stayed, HelpersReady, WalksHelpers, RestReady, WalksRest}
 use Rattle.walk.specs.declared.Piece.{Piece}
 use Rattle.walk.specs.declared.Piece.the-variants.{Done as Took, Refused as Stopped}
 use Rattle.walk.specs.declared.Rest.the-variants.{Listed}
@@ -106,7 +106,7 @@ module _ {way : Way} {mem : Bytes} {sum : ℕ} {t : Task} (p : RestReady Listed 
         same-then (t .free) (length mem - t .map) (omega arith) (omega arith) (omega (arith, byte-fits)) (omega arith) count-frame behind-frame
 
     -- what they answered, said of the whole
-    told : Comes helpers-bytes (t .f) end (1 + t .free) (length (helpers-bytes hs)) (helpers-by (t .f) way (t .depth) (p .ready .m) hs) (t .counter) sum r
+    told : ComesOut helpers-bytes (t .f) end (1 + t .free) (length (helpers-bytes hs)) (helpers-by (t .f) way (t .depth) (p .ready .m) hs) (t .counter) sum r
     told = whole-comes counted 1 (t .free) (t .map) fits (s .frame) (1 + t .free) refl (s .says (p .ready .m) part-map hs (into here) (omega (arith, p .ready .below)) fine)
 
     -- one is refused

@@ -14,7 +14,7 @@ use Rattle.names.proofs.Frames.{same-refl, same-then, same-wider, at-below}
 use Rattle.names.proofs.Gensym.{gensym-length}
 use Rattle.names.proofs.Parts.{part, back, part-length, at-part, at-back, same-back}
 use Rattle.names.proofs.Places.{at-left, at-right, at-place, at-join, at-is, at-get}
-use Rattle.records.specs.Answer.{refuses}
+use Rattle.records.specs.StepAnswer.{refuses}
 use Rattle.records.specs.Depth.{binding-depth}
 use Rattle.records.specs.Lists.{joined, Each}
 use Rattle.records.specs.Parts.{ValidBinding, Past, family-part}
@@ -23,7 +23,7 @@ use Rattle.records.specs.Valid.{ValidPattern, ValidBody, BindingFields, binding
 use Rattle.records.specs.declared.Family.the-variants.{Body as a-body}
 use Rattle.walk.specs.Arena.{MapAt, outcome}
 use Rattle.walk.specs.Draws.{pattern-atoms, patterns-of, counter-most}
-use Rattle.walk.specs.Inventing.{map-growth}
+use Rattle.walk.specs.DrawnMaps.{map-growth}
 use Rattle.walk.specs.NewNames.{added, pattern-own, pattern-sum, pattern-adds, pattern-drawn, pattern-needs, PatternReady, PatternGrows, PatternDrawn, DrawsPattern}
 use Rattle.walk.specs.NewNames.{drew as pattern-drew, stopped as pattern-stopped}
 use Rattle.walk.specs.Patterns.{make-binding-unique, make-bindings-unique}

@@ -16,7 +16,7 @@ use Rattle.names.proofs.Parts.{part, part-length}
 use Rattle.names.proofs.Places.{at-is}
 use Rattle.names.proofs.Segments.{filled-then}
 use Rattle.walk.specs.Arena.{MapAt}
-use Rattle.walk.specs.Inventing.{atom-size, counter-limit, map-growth, between, entry, EntryRoom}
+use Rattle.walk.specs.DrawnMaps.{atom-size, counter-limit, map-growth, between, entry, EntryRoom}
 
 -- a map without entries
 pub no-map : {mem : Bytes} → MapAt mem 0 []

@@ -13,18 +13,18 @@ use Rattle.names.specs.declared.Refusal.{Refusal}
 use Rattle.names.proofs.Frames.{same-then, same-wider, at-below}
 use Rattle.names.proofs.Parts.{part, back, part-length, at-part, into}
 use Rattle.names.proofs.Places.{at-place, at-left, at-right}
-use Rattle.records.specs.Answer.{refuses, Gives}
+use Rattle.records.specs.StepAnswer.{refuses, Gives}
 use Rattle.records.specs.Limits.{cons-limit}
 use Rattle.records.specs.Records.{Loc, Sexp, sexp-bytes, Complex, Body, body-bytes, Binding, BB}
 use Rattle.records.specs.declared.Step.{Step}
 use Rattle.records.specs.declared.Step.the-variants.{Done, Refused}
-use Rattle.records.proofs.Answers.{Made as GotOf, made as got-of, unmade}
+use Rattle.records.proofs.StepAnswers.{Made as GotOf, made as got-of, unmade}
 use Rattle.walk.specs.Arena.{outcome}
 use Rattle.walk.specs.AssignWalks.{stopped, MakesParts, parts-bytes, FineParts, remaking, naming, RemakeReady, Remakes, NamedReady, MakesNamed, ComplexReady, MakesComplex}
 use Rattle.walk.specs.Bodyforms.{walk, rename-assign-binding}
 use Rattle.walk.specs.Draws.{atoms, sexp-atoms}
 use Rattle.walk.specs.Invent.{invent-new-names-sexp}
-use Rattle.walk.specs.Inventing.{map-growth, Roomy, Drawable, Grown, Grew, Draws, Drew, TooLong, InventsFrom, InventsSexp}
+use Rattle.walk.specs.DrawnMaps.{map-growth, Roomy, Drawable, Grown, Grew, Draws, Drew, TooLong, InventsFrom, InventsSexp}
 use Rattle.walk.specs.Steps.{M, over-long, _>>=_, child, body-size}
 use Rattle.walk.specs.Walking.{rule, AnyBody, BodyReady, Walks}
 use Rattle.walk.specs.declared.Growth.{Growth}

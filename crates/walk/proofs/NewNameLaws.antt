@@ -10,16 +10,16 @@ use Rattle.names.specs.Names.{Bytes}
 use Rattle.names.specs.Segments.{At, SameOutside}
 use Rattle.names.specs.declared.Refusal.{Refusal}
 use Rattle.names.proofs.Frames.{same-then, same-wider, at-below}
-use Rattle.records.specs.Answer.{gives, refuses}
+use Rattle.records.specs.StepAnswer.{gives, refuses}
 use Rattle.records.specs.Limits.{cons-limit}
 use Rattle.records.specs.Records.{Sexp, sexp-bytes}
 use Rattle.records.specs.Valid.{ValidSexp}
 use Rattle.records.specs.declared.Step.{Step}
 use Rattle.records.specs.declared.Step.the-variants.{Done as Written, Refused as Unwritten}
-use Rattle.records.proofs.Answers.{unmade}
+use Rattle.records.proofs.StepAnswers.{unmade}
 use Rattle.walk.specs.Arena.{Substitutes, MapAt, Asks, Held, outcome}
 use Rattle.walk.specs.Invent.{invent-new-names-sexp, rename-in-cons-step}
-use Rattle.walk.specs.Inventing.{Roomy, Drawable, InventsSexp, InventsFrom, map-growth}
+use Rattle.walk.specs.DrawnMaps.{Roomy, Drawable, InventsSexp, InventsFrom, map-growth}
 use Rattle.walk.specs.NewNames.{names-task, beside, PutsNames, ArgsReady, ArgsDrawn, args-drew, args-long, args-refused, DrawsArgs, added}
 use Rattle.walk.specs.RenameInCons.{rename-in-cons}
 use Rattle.walk.specs.Steps.{M, _>>=_, over-long, child, sexp-size}

@@ -8,9 +8,9 @@ use Rattle.names.specs.Names.{Bytes}
 use Rattle.names.specs.Segments.{At, SameOutside}
 use Rattle.names.proofs.Frames.{same-wider}
 use Rattle.names.proofs.Parts.{part, back, part-length, same-back, into}
-use Rattle.records.specs.Answer.{Outcome, Gives}
+use Rattle.records.specs.StepAnswer.{Outcome, Gives}
 use Rattle.records.specs.declared.Step.{Step}
-use Rattle.records.proofs.Answers.{gives-back}
+use Rattle.records.proofs.StepAnswers.{gives-back}
 use Rattle.walk.specs.Arena.{MapAt, Asks, Says}
 use Rattle.walk.specs.declared.Task.{Task}
 use Rattle.walk.proofs.MapLaws.{map-of-part}

@@ -9,7 +9,7 @@ use Rattle.names.specs.Maps.{NameMap}
 use Rattle.names.specs.Names.{Bytes}
 use Rattle.names.specs.Segments.{At}
 use Rattle.names.proofs.Places.{at-left, at-is}
-use Rattle.records.specs.Answer.{Outcome, Gives, gave, refused}
+use Rattle.records.specs.StepAnswer.{Outcome, Gives, gave, refused}
 use Rattle.records.specs.Records.{sexp-bytes}
 use Rattle.records.specs.declared.Step.{Step}
 use Rattle.records.specs.declared.Step.the-variants.{Done}

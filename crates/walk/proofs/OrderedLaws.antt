@@ -12,10 +12,10 @@ use Rattle.names.specs.Names.{Bytes}
 use Rattle.names.specs.Segments.{At, SameOutside}
 use Rattle.names.specs.declared.Refusal.{Refusal}
 use Rattle.names.proofs.Frames.{same-then, same-wider, at-below}
-use Rattle.ordering.specs.Toposort.{Outcome, ordered, deadlock}
+use Rattle.ordering.specs.Toposort.{Toposorted, ordered, deadlock}
 use Rattle.ordering.specs.Words.{toposort-assign-bindings}
 use Rattle.ordering.specs.declared.Order.{Order}
-use Rattle.records.specs.Answer.{Gives, refused}
+use Rattle.records.specs.StepAnswer.{Gives, refused}
 use Rattle.records.specs.Depth.{levels, depth, bindings-depth, list-depth}
 use Rattle.records.specs.Limits.{level-limit, lambda-limit}
 use Rattle.records.specs.Lists.{joined, Each}
@@ -30,10 +30,10 @@ use Rattle.records.specs.declared.Step.the-variants.{Refused}
 use Rattle.records.specs.declared.Zone.{Zone}
 use Rattle.records.proofs.Lists.{list-count, list-bytes}
 use Rattle.walk.specs.Arena.{outcome}
-use Rattle.walk.specs.AssignWalks.{Makes, AssignBinding, BindingStarts, at-all, binding-size, BindingsReady, MakesBindings, Placed, body-draws, let-bindings, turning, TurnedReady, Turns, OrderedReady}
+use Rattle.walk.specs.AssignWalks.{MakesRun, AssignBinding, BindingStarts, at-all, binding-size, BindingsReady, MakesBindings, Placed, body-draws, let-bindings, turning, TurnedReady, Turns, OrderedReady}
 use Rattle.walk.specs.Bodyforms.{Rules, walk, args-then-in, rename-assign-bindings, rename-args-ordered, rename-args-assign, rename-args-bodyform, deadlocked}
 use Rattle.walk.specs.Draws.{atoms, binding-atoms, list-atoms, dbl}
-use Rattle.walk.specs.Inventing.{map-growth}
+use Rattle.walk.specs.DrawnMaps.{map-growth}
 use Rattle.walk.specs.Room.{room}
 use Rattle.walk.specs.Steps.{M, _>>=_, ret, refuse, body-size, step}
 use Rattle.walk.specs.Walking.{count-of, from-sum, rule, Fine, Walks}
@@ -68,11 +68,11 @@ each-fine F d z (b ∷ᵍ bs) v e l k n s =
 module _ (F : ℕ) (q : Rules) (l : Loc) (w h : Bytes) (bs : List Binding) (e : Body) where
   by-order : (is : List ℕ) → toposort-assign-bindings bs ≡ ordered is → rename-args-assign F q l w h bs e ≡ rename-args-ordered F q l w h bs e is
   unfolding rename-args-assign
-  by-order is o = ap (λ (z : Outcome). elim z as (λ _. M Body) [ deadlock _ ↦ refuse (deadlocked l) | ordered js ↦ rename-args-ordered F q l w h bs e js ]) o
+  by-order is o = ap (λ (z : Toposorted). elim z as (λ _. M Body) [ deadlock _ ↦ refuse (deadlocked l) | ordered js ↦ rename-args-ordered F q l w h bs e js ]) o
 
   pub no-order : (left : List ℕ) → toposort-assign-bindings bs ≡ deadlock left → rename-args-assign F q l w h bs e ≡ refuse (deadlocked l)
   unfolding rename-args-assign
-  no-order left o = ap (λ (z : Outcome). elim z as (λ _. M Body) [ deadlock _ ↦ refuse (deadlocked l) | ordered js ↦ rename-args-ordered F q l w h bs e js ]) o
+  no-order left o = ap (λ (z : Toposorted). elim z as (λ _. M Body) [ deadlock _ ↦ refuse (deadlocked l) | ordered js ↦ rename-args-ordered F q l w h bs e js ]) o
 
 -- Own of an assign is a step one level up
 pub own-assign : (F d : ℕ) (m : NameMap) (b : Body) (v : AssignParts b) (c : ℕ) → 1 ≤ d
@@ -219,7 +219,7 @@ module _ {mem : Bytes} {o : Order} {t : Task} (p : OrderedReady mem o t) where
         unfolding rename-args-ordered
         opened = refl
 
-        said : Makes (λ u. joined binding-bytes (u .1)) (λ u. length (u .1) ≡ length order) (t .f) (map-growth * t .f) (at-all binding-size bindings order) a (λ k. t .free + 3 * t .f - k) run (t .counter) 0 r
+        said : MakesRun (λ u. joined binding-bytes (u .1)) (λ u. length (u .1) ≡ length order) (t .f) (map-growth * t .f) (at-all binding-size bindings order) a (λ k. t .free + 3 * t .f - k) run (t .counter) 0 r
         said = h .says bindings all-fine (found .1)
 
         pub bindings-refused : (k : Refusal) → r ≡ Not k → Walks (IsLet Assign) true mem a t (Refused k)

@@ -10,8 +10,8 @@ use Rattle.names.specs.Segments.{At, SameOutside, Filled}
 use Rattle.names.specs.declared.Refusal.{Refusal}
 use Rattle.names.proofs.Frames.{same-refl, same-then, at-below, copied-at}
 use Rattle.names.proofs.Places.{at-place, at-left, at-right, at-join}
-use Rattle.records.specs.Answer.{Outcome, gives, refuses, Gives, gave, refused}
-use Rattle.records.proofs.Answers.{unmade}
+use Rattle.records.specs.StepAnswer.{Outcome, gives, refuses, Gives, gave, refused}
+use Rattle.records.proofs.StepAnswers.{unmade}
 use Rattle.records.specs.Records.{head-width, Loc, Sexp, SC, sexp-bytes, record-bytes}
 use Rattle.records.specs.Valid.{ValidLoc, SexpFields, cons-depth}
 use Rattle.records.specs.declared.Step.{Step}

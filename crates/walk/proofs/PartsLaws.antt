@@ -14,7 +14,7 @@ use Rattle.names.proofs.Places.{at-place, at-left, at-right, at-join}
 use Rattle.records.specs.Records.{Body, body-bytes, Helpers, helpers-bytes}
 use Rattle.walk.specs.Arena.{MapAt}
 use Rattle.walk.specs.Draws.{atoms, helpers-atoms, dbl}
-use Rattle.walk.specs.FormWalks.{listed-bytes, child-by, helpers-by, new-sum, ChildReady, WalksChild, RestReady, WalksRest, Comes, came, stayed}
+use Rattle.walk.specs.FormWalks.{listed-bytes, child-by, helpers-by, new-sum, ChildReady, WalksChild, RestReady, WalksRest, ComesOut, came, stayed}
 use Rattle.walk.specs.Room.{room}
 use Rattle.walk.specs.Steps.{M, _>>=_, ret}
 use Rattle.walk.specs.declared.Child.the-variants.{Bodyform}
@@ -91,7 +91,7 @@ module _ {way : Way} {mem : Bytes} {sum : ℕ} {t : Task} (p : RestReady Parts w
 
   module _ {mid : Bytes} {a : Piece} (s : WalksRest Listed way mem mid sum t a) where
     -- what they answered
-    listed-told : Comes listed-bytes (t .f) mid (t .free) (length (listed-bytes hs)) run-helpers (t .counter) sum a
+    listed-told : ComesOut listed-bytes (t .f) mid (t .free) (length (listed-bytes hs)) run-helpers (t .counter) sum a
     listed-told = s .says m (p .ready .map) hs (at-left (listed-bytes hs) (body-bytes b) (p .ready .there)) (omega (arith, p .ready .below, size)) (p .ready .good .0)
 
     -- one of them is refused
@@ -185,7 +185,7 @@ module _ {way : Way} {mem : Bytes} {sum : ℕ} {t : Task} (p : RestReady Parts w
             same-then (t .free) (length mem - t .map) (omega arith) (omega (arith, listed-read)) (omega arith) (omega arith) (s .frame) body-frame
 
         -- what it answered, said of the whole
-        body-told : Comes body-bytes (t .f) end (t .free + w) (length (body-bytes b)) run-body c x r
+        body-told : ComesOut body-bytes (t .f) end (t .free + w) (length (body-bytes b)) run-body c x r
         body-told =
             whole-comes mid i (t .free + w - i) (t .map) body-fits (v .frame) (t .free + w) (omega (arith, listed-read))
             (v .says m body-map b body-there (omega (arith, listed-read)) (p .ready .good .1))

@@ -16,13 +16,13 @@ use Rattle.names.proofs.Frames.{same-then, same-wider, same-set, at-below, at-a
 use Rattle.names.proofs.Numbers.{number-at}
 use Rattle.names.proofs.Parts.{into}
 use Rattle.names.proofs.Places.{at-whole, at-left, at-right, at-place, at-join, at-get}
-use Rattle.records.specs.Answer.{gives, refuses}
+use Rattle.records.specs.StepAnswer.{gives, refuses}
 use Rattle.records.specs.Records.{Sexp, sexp-bytes, Pattern, Name, Complex, pattern-field, Body}
 use Rattle.records.specs.Valid.{ValidSexp, ValidPattern}
 use Rattle.walk.specs.Arena.{MapAt, outcome}
 use Rattle.walk.specs.Draws.{pattern-atoms}
 use Rattle.walk.specs.Invent.{name-too-long, draw, invent-new-names-sexp, rename-in-cons-step}
-use Rattle.walk.specs.Inventing.{counter-limit, NameRoom, NameFrom, Grown, Grew, Draws, Drew, Pushes, atom-size, map-growth}
+use Rattle.walk.specs.DrawnMaps.{counter-limit, NameRoom, NameFrom, Grown, Grew, Draws, Drew, Pushes, atom-size, map-growth}
 use Rattle.walk.specs.NewNames.{ArgsReady, ArgsDrawn, DrawsArgs, pattern-own, pattern-sum, pattern-adds, pattern-drawn, pattern-needs, PatternReady, NameReady, PatternGrows, PatternDrawn, drew, stopped, DrawsPattern, DrawsName}
 use Rattle.walk.specs.Patterns.{make-binding-unique}
 use Rattle.walk.specs.RenameInCons.{rename-in-cons}
@@ -228,8 +228,8 @@ module _ {old : Bytes} {free f c : ℕ} (p : PatternReady old free f c) where
   pub pattern-starts : (0 < length old) × (free < length old)
   pattern-starts = (omega (arith, field-some (p .p), p .below, p .room), omega (arith, own-some (p .p), p .room))
 
-  kind-of : (u : Pattern) → At old 0 (pattern-field u) → getD old 0 0 ≡ getD (pattern-field u) 0 0
-  kind-of u at = at-get at 0 (field-some u)
+  kind-byte : (u : Pattern) → At old 0 (pattern-field u) → getD old 0 0 ≡ getD (pattern-field u) 0 0
+  kind-byte u at = at-get at 0 (field-some u)
 
   pub name-ready : getD old 0 0 ≡ 0 → NameReady old free c
   unfolding ValidPattern pattern-field pattern-own pattern-adds pattern-drawn
@@ -237,14 +237,14 @@ module _ {old : Bytes} {free f c : ℕ} (p : PatternReady old free f c) where
     where
       go : (u : Pattern) → ValidPattern u → At old 0 (pattern-field u) → length (pattern-field u) ≤ free → free + pattern-needs f c u ≤ length old → NameReady old free c
       go (Name n) v at le room = record { n = n; valid = v; there = at; below = le; room = room; counts = omega (arith, field-some (p .p), p .counts) }
-      go (Complex s) v at le room = absurd (omega (arith, kind-of (Complex s) at))
+      go (Complex s) v at le room = absurd (omega (arith, kind-byte (Complex s) at))
 
   pub complex-here : (getD old 0 0 ≡ 0 → ⊥) → ComplexHere old free f c (p .p)
   unfolding ValidPattern pattern-field pattern-own pattern-adds pattern-drawn
   complex-here other = go (p .p) (p .valid) (p .there) (p .below) (p .room) (p .counts)
     where
       go : (u : Pattern) → ValidPattern u → At old 0 (pattern-field u) → length (pattern-field u) ≤ free → free + pattern-needs f c u ≤ length old → c + length (pattern-field u) < counter-limit → ComplexHere old free f c u
-      go (Name n) v at le room more = absurd (other (kind-of (Name n) at))
+      go (Name n) v at le room more = absurd (other (kind-byte (Name n) at))
       go (Complex s) v at le room more = record { s = s; is = refl; valid = v; there = at-place 1 (omega arith) (at-right (1 ∷ []) (sexp-bytes s) at); below = omega arith; room = omega arith; counts = omega arith }
 
   module _ (h : ComplexHere old free f c (p .p)) where

@@ -7,14 +7,14 @@ use Rattle.names.specs.Maps.{NameMap}
 use Rattle.names.specs.Names.{Bytes}
 use Rattle.names.specs.Segments.{At, SameOutside}
 use Rattle.names.specs.declared.Refusal.{Refusal}
-use Rattle.records.specs.Answer.{Outcome, Gives, gave, refused}
-use Rattle.records.proofs.Answers.{made, unmade}
+use Rattle.records.specs.StepAnswer.{Outcome, Gives, gave, refused}
+use Rattle.records.proofs.StepAnswers.{made, unmade}
 use Rattle.records.specs.Records.{Sexp, sexp-bytes}
 use Rattle.records.specs.Valid.{SexpFields}
 use Rattle.records.specs.declared.Step.{Step}
 use Rattle.records.specs.declared.Step.the-variants.{Done, Refused}
 use Rattle.walk.specs.Arena.{MapAt, Asks, Held, fitting, Substitutes}
-use Rattle.walk.specs.Plans.{substitution, Goes, Quoted, Lone, Planned, keeps, renames, quotes, goes-alone, goes-on, Plans, PairAtStart}
+use Rattle.walk.specs.Plans.{substitution, GoesByParts, Quoted, OnlyElement, Planned, keeps, renames, quotes, goes-alone, goes-on, Plans, PairAtStart}
 use Rattle.walk.specs.RenameInCons.{rename-atom}
 use Rattle.walk.specs.declared.Plan.{Plan}
 use Rattle.walk.specs.declared.Plan.the-variants.{Kept, ByMap, Requoted, Alone, Parts}
@@ -29,8 +29,8 @@ module _ (rule : NameMap → Sexp → Sexp) (s : Bytes) (t : Sexp) where
   PlanSays (Kept n) = (n ≡ length (sexp-bytes t)) × ((m : NameMap) → rule m t ≡ t)
   PlanSays ByMap = (m : NameMap) → rule m t ≡ rename-atom m t
   PlanSays (Requoted at n) = (n ≡ length (sexp-bytes t)) × Quoted rule t at
-  PlanSays (Alone next at n) = (n ≡ length (sexp-bytes t)) × Lone rule next s t at
-  PlanSays Parts = Goes rule t
+  PlanSays (Alone next at n) = (n ≡ length (sexp-bytes t)) × OnlyElement rule next s t at
+  PlanSays Parts = GoesByParts rule t
 
 pub plan-says : (rule : NameMap → Sexp → Sexp) {s : Bytes} {p : Plan} → Plans rule s p → (t : Sexp) → SexpFields t → At s 0 (sexp-bytes t) → PlanSays rule s t p
 plan-says rule {s} {p} x t w a = go (x .plans t w a)
@@ -60,7 +60,7 @@ module _ (rule : NameMap → Sexp → Sexp) {mem : Bytes} {t : Task} where
     abbrev alone-task : Task
     alone-task = record { free = t .free - at; map = t .map; f = t .f; depth = t .depth - 1; counter = t .counter }
 
-    pub element : Lone rule next mem (p .tree) at
+    pub element : OnlyElement rule next mem (p .tree) at
     element = plan-says rule x (p .tree) (p .good .fields) (p .there) .1
 
     pub element-low : at ≤ t .free
@@ -88,7 +88,7 @@ module _ (rule : NameMap → Sexp → Sexp) {mem : Bytes} {t : Task} where
       abbrev outcome : NameMap → Sexp → Outcome Sexp
       outcome m u = fitting sexp-bytes (t .f) (t .counter) (substitution next m u)
 
-      alone-gives : {m : NameMap} {u : Sexp} → MapAt mem (t .map) m → length (sexp-bytes u) ≤ t .free → (k : Lone rule next mem u at)
+      alone-gives : {m : NameMap} {u : Sexp} → MapAt mem (t .map) m → length (sexp-bytes u) ≤ t .free → (k : OnlyElement rule next mem u at)
           → Gives sexp-bytes end (t .free) (length (sexp-bytes (k .x))) (outcome m (k .x)) r
       alone-gives map below k = let l = element-low in part-gives at fit s (t .free) (omega arith) map (k .x) (k .there) (omega (arith, k .within)) (k .fields)
 

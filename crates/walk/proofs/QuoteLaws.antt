@@ -10,7 +10,7 @@ use Rattle.names.specs.Segments.{At, SameOutside, Filled}
 use Rattle.names.proofs.Frames.{same-refl, same-then, at-below, at-above, filled-at, copied-at}
 use Rattle.names.proofs.Parts.{into, part}
 use Rattle.names.proofs.Places.{at-place, at-whole, at-left, at-right, at-join}
-use Rattle.records.specs.Answer.{gave, refused}
+use Rattle.records.specs.StepAnswer.{gave, refused}
 use Rattle.records.specs.Records.{head-width, mark-width, Loc, Sexp, SN, SC, SI, SQ, SA, loc-width, sexp-bytes, record-bytes}
 use Rattle.records.specs.Sexps.{loc-of}
 use Rattle.records.specs.Valid.{ValidLoc, SexpFields}

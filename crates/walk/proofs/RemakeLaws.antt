@@ -12,12 +12,12 @@ use Rattle.names.specs.declared.Refusal.{Refusal}
 use Rattle.names.proofs.Frames.{same-then, same-wider, at-below, copied-at}
 use Rattle.names.proofs.Parts.{into}
 use Rattle.names.proofs.Places.{at-place, at-join}
-use Rattle.records.specs.Answer.{refuses, Gives}
+use Rattle.records.specs.StepAnswer.{refuses, Gives}
 use Rattle.records.specs.Limits.{cons-limit}
 use Rattle.records.specs.Records.{Loc, Sexp, sexp-bytes, Complex, Body, body-bytes, Binding, BB}
 use Rattle.records.specs.declared.Step.{Step}
 use Rattle.records.specs.declared.Step.the-variants.{Done, Refused}
-use Rattle.records.proofs.Answers.{Made as GotOf, made as got-of, unmade}
+use Rattle.records.proofs.StepAnswers.{Made as GotOf, made as got-of, unmade}
 use Rattle.walk.specs.Arena.{Asks, Held, Substitutes, fitting, outcome}
 use Rattle.walk.specs.AssignWalks.{made, stopped, MakesParts, inner, remaking, RemakeReady, Remakes}
 use Rattle.walk.specs.Bodyforms.{walk}

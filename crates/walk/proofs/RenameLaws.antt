@@ -8,18 +8,18 @@ use Prim.Native.Nat.{ℕ, _*_, _-_, _^_, _≤_, _<_}
 use lib.Dec.{T, leb, leb→le}
 use lib.ListN.{length, take}
 use lib.Seq.{length-take-le}
-use Rattle.names.specs.Answers.{Result, accepted-answer, refused-answer, delivered, max-counter}
+use Rattle.names.specs.CallAnswer.{Result, accepted-answer, refused-answer, delivered, max-counter}
 use Rattle.names.specs.Names.{Bytes}
 use Rattle.names.specs.Segments.{At, Filled}
 use Rattle.names.specs.Refusals.{placeless}
 use Rattle.names.specs.declared.Refusal.{Refusal}
-use Rattle.names.proofs.Answers.{delivered-short, delivered-fits}
+use Rattle.names.proofs.CallAnswers.{delivered-short, delivered-fits}
 use Rattle.names.proofs.Frames.{filled-at}
 use Rattle.names.proofs.Parts.{part, into}
 use Rattle.names.proofs.Places.{at-whole}
 use Rattle.names.proofs.Same.{T-left, T-right}
 use Rattle.names.proofs.Segments.{filled-written}
-use Rattle.records.specs.Answer.{gives, refuses, Gives, gave, refused}
+use Rattle.records.specs.StepAnswer.{gives, refuses, Gives, gave, refused}
 use Rattle.records.specs.Limits.{level-limit, least-longest, most-longest, work-factor}
 use Rattle.records.specs.Opened.{Opened, opened, closed, limits, open-input}
 use Rattle.records.specs.Read.{Reader, readers}

@@ -14,12 +14,12 @@ use Rattle.names.specs.declared.Refusal.{Refusal}
 use Rattle.names.proofs.Frames.{same-then, same-wider, at-below, copied-at}
 use Rattle.names.proofs.Parts.{into}
 use Rattle.names.proofs.Places.{at-left, at-right, at-place, at-join}
-use Rattle.records.specs.Answer.{gives, Gives}
+use Rattle.records.specs.StepAnswer.{gives, Gives}
 use Rattle.records.specs.Records.{Sexp, sexp-bytes}
 use Rattle.records.specs.declared.Step.{Step}
 use Rattle.records.specs.declared.Step.the-variants.{Refused as Unwritten}
 use Rattle.walk.specs.Arena.{MapAt, outcome}
-use Rattle.walk.specs.FormWalks.{RestOf, rest-bytes, both-by, with-args, FineRenewed, RenewedReady, WalksRenewed, BothRestReady, WalksBothRest, Comes}
+use Rattle.walk.specs.FormWalks.{RestOf, rest-bytes, both-by, with-args, FineRenewed, RenewedReady, WalksRenewed, BothRestReady, WalksBothRest, ComesOut}
 use Rattle.walk.specs.NewNames.{ArgsReady, ArgsDrawn, DrawsArgs}
 use Rattle.walk.specs.RenameInCons.{rename-in-cons}
 use Rattle.walk.specs.Room.{room}
@@ -239,7 +239,7 @@ module _ {k : Rest} {old : Bytes} {args : ℕ} {t : Task} (p : RenewedReady k ol
           rest-run = both-by F k (t .depth - 1) (got .m) e
 
           -- what both rules answered
-          comes : Comes (rest-bytes k) F x (rest-task .free) (length (rest-bytes k e)) rest-run c′ w o
+          comes : ComesOut (rest-bytes k) F x (rest-task .free) (length (rest-bytes k e)) rest-run c′ w o
           comes = b .says (got .m) map-there e rest-there (omega (arith, renewed-places .0)) (p .ready .good .fine)
 
           -- the run goes on to the rest

@@ -10,7 +10,7 @@ use lib.Dec.{leb}
 use lib.ListN.{length}
 use Rattle.names.specs.Maps.{NameMap, Limited}
 use Rattle.names.specs.Names.{Bytes}
-use Rattle.records.specs.Answer.{gives}
+use Rattle.records.specs.StepAnswer.{gives}
 use Rattle.records.specs.Depth.{depth}
 use Rattle.records.specs.Limits.{lambda-limit, most-longest}
 use Rattle.records.specs.Records.{Sexp, SN, Body, BV, body-bytes}
@@ -19,7 +19,7 @@ use Rattle.walk.specs.Arena.{outcome}
 use Rattle.walk.specs.Bodyforms.{walk, body-rules, rename-args-bodyform}
 use Rattle.walk.specs.Draws.{sexp-atoms, atoms, dbl, counter-most}
 use Rattle.walk.specs.Invent.{invent-new-names-sexp}
-use Rattle.walk.specs.Inventing.{counter-limit}
+use Rattle.walk.specs.DrawnMaps.{counter-limit}
 use Rattle.walk.specs.Room.{room}
 use Rattle.walk.specs.Steps.{M, Out, done, refused, over-long, _>>=_, ret, refuse, fits, step, after, body-size}
 use Rattle.walk.specs.Walking.{rule, AnyBody, Fine, BodyReady}

@@ -10,7 +10,7 @@ use Rattle.records.specs.Limits.{level-limit, work-factor}
 use Rattle.records.specs.Records.{head-width, mark-width, byte, record-bytes, Body, BL, BQ, BV, BC, BM, BF, body-bytes, no-tail, tail, tail-bytes, CF, form-bytes}
 use Rattle.records.specs.Valid.{BodyFields}
 use Rattle.walk.proofs.Views.{least-sexp}
-use Rattle.walk.specs.Inventing.{map-growth}
+use Rattle.walk.specs.DrawnMaps.{map-growth}
 use Rattle.walk.specs.Room.{aside-factor, result-factor, level-room, room}
 
 -- the last level has a result alone

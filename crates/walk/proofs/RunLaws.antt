@@ -11,7 +11,7 @@ use lib.ListN.{length}
 use Rattle.names.specs.Maps.{NameMap}
 use Rattle.names.specs.Names.{Bytes, ascii, same, name-limit, gensym}
 use Rattle.names.specs.declared.Refusal.{Refusal}
-use Rattle.records.specs.Answer.{Outcome, gives, refuses}
+use Rattle.records.specs.StepAnswer.{Outcome, gives, refuses}
 use Rattle.records.specs.Records.{Sexp, SN, SC, SI, SQ, SA, Parallel, Sequential, Assign, Body, BL, BQ, BV, BC, BM, BF}
 use Rattle.walk.specs.Arena.{outcome}
 use Rattle.walk.specs.Bodyforms.{body-rules, walk, log-assign, logged, visit, rename-args-bodyform, rename-in-bodyform}

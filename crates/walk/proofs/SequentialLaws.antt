@@ -12,7 +12,7 @@ use Rattle.names.specs.Segments.{At, SameOutside, Filled, Movable}
 use Rattle.names.specs.declared.Refusal.{Refusal}
 use Rattle.names.proofs.Frames.{same-wider, same-then, copied-at}
 use Rattle.names.proofs.Parts.{into}
-use Rattle.records.specs.Answer.{Outcome, gives, refuses, Gives, gave, refused}
+use Rattle.records.specs.StepAnswer.{Outcome, gives, refuses, Gives, gave, refused}
 use Rattle.records.specs.Depth.{levels, depth, list-depth}
 use Rattle.records.specs.Read.{binding-zone}
 use Rattle.records.specs.Records.{Parallel, Sequential, Assign, Body, BL, BQ, BV, BC, BM, BF, Binding, BB, list-of, body-bytes, bindings-count}
@@ -21,7 +21,7 @@ use Rattle.records.specs.Views.{SeesLet}
 use Rattle.records.specs.declared.LetView.{LetView}
 use Rattle.records.specs.declared.Step.{Step}
 use Rattle.records.specs.declared.Step.the-variants.{Done, Refused}
-use Rattle.records.proofs.Answers.{made, unmade}
+use Rattle.records.proofs.StepAnswers.{made, unmade}
 use Rattle.walk.specs.Arena.{Asks, fitting, outcome}
 use Rattle.walk.specs.Bodyforms.{Rules, desugar-sequential-let-bindings, log-assign, rename-args-desugared, rename-args-sequential, rename-args-bodyform, body-rules, walk}
 use Rattle.walk.specs.Draws.{atoms, dbl}

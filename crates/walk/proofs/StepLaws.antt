@@ -11,7 +11,7 @@ use lib.ListN.{length}
 use Rattle.names.specs.Maps.{NameMap}
 use Rattle.names.specs.Names.{Bytes}
 use Rattle.names.specs.declared.Refusal.{Refusal}
-use Rattle.records.specs.Answer.{Outcome, gives, refuses}
+use Rattle.records.specs.StepAnswer.{Outcome, gives, refuses}
 use Rattle.records.specs.Records.{Sexp, sexp-bytes}
 use Rattle.walk.specs.Arena.{fitting, outcome}
 use Rattle.walk.specs.Invent.{rename-in-cons-step}

@@ -11,7 +11,7 @@ use Rattle.names.proofs.Frames.{same-refl, same-wider, filled-at, copied-at}
 use Rattle.names.proofs.Parts.{part}
 use Rattle.names.proofs.Places.{at-whole, at-own, at-is}
 use Rattle.names.proofs.Segments.{filled-then}
-use Rattle.records.specs.Answer.{Gives, gave, refused}
+use Rattle.records.specs.StepAnswer.{Gives, gave, refused}
 use Rattle.records.specs.Records.{head-width, Sexp, SA, sexp-bytes}
 use Rattle.records.proofs.AnySexp.{bytes-are}
 use Rattle.records.specs.declared.Step.{Step}
@@ -22,7 +22,7 @@ use Rattle.records.specs.declared.SexpView.{SexpView}
 use Rattle.records.specs.declared.SexpView.the-variants.{Atom}
 use Rattle.walk.specs.Arena.{MapAt, Says, fitting, Substitutes, as-bytes, KeepsBytes, named}
 use Rattle.walk.specs.Steps.{over-long}
-use Rattle.walk.specs.Inventing.{atom-size}
+use Rattle.walk.specs.DrawnMaps.{atom-size}
 use Rattle.walk.specs.RenameInCons.{rename-atom}
 use Rattle.walk.specs.declared.Task.{Task}
 use Rattle.walk.proofs.Fits.{done-is, fitting-fits, fitting-long, same-bytes}

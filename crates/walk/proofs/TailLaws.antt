@@ -11,11 +11,11 @@ use Rattle.names.specs.declared.Refusal.{Refusal}
 use Rattle.names.proofs.Frames.{same-wider, same-then, same-set, at-below, filled-set, filled-at}
 use Rattle.names.proofs.Parts.{into}
 use Rattle.names.proofs.Places.{at-place, at-get, at-right, at-join, at-whole}
-use Rattle.records.specs.Answer.{Gives}
+use Rattle.records.specs.StepAnswer.{Gives}
 use Rattle.records.specs.Records.{Body, body-bytes, Tail, no-tail, tail, tail-bytes, byte}
 use Rattle.records.specs.declared.Step.{Step}
 use Rattle.records.specs.declared.Step.the-variants.{Done, Refused}
-use Rattle.records.proofs.Answers.{Made, made, unmade}
+use Rattle.records.proofs.StepAnswers.{Made, made, unmade}
 use Rattle.walk.specs.Arena.{outcome}
 use Rattle.walk.specs.Bodyforms.{call-tail}
 use Rattle.walk.specs.CallWalks.{FineTail, tail-room, TailReady, MadeTail, WalksTail}

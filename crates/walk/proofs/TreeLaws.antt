@@ -7,7 +7,7 @@ use Prim.Native.Nat.{ℕ, zero, suc, _+_, _-_, _≤_}
 use lib.ListN.{length}
 use Rattle.names.specs.Maps.{NameMap, Limited}
 use Rattle.names.specs.Names.{Bytes}
-use Rattle.records.specs.Answer.{gives}
+use Rattle.records.specs.StepAnswer.{gives}
 use Rattle.records.specs.Limits.{level-limit, lambda-limit}
 use Rattle.records.specs.Depth.{helper-depth, form-depth}
 use Rattle.records.specs.Records.{Helper, helper-bytes, Form, form-bytes}

@@ -10,7 +10,7 @@ use Rattle.names.specs.declared.Refusal.{Refusal}
 use Rattle.names.proofs.Frames.{same-then, same-wider, at-below, at-above, copied-at}
 use Rattle.names.proofs.Parts.{into}
 use Rattle.names.proofs.Places.{at-place, at-join}
-use Rattle.records.specs.Answer.{gives, refused}
+use Rattle.records.specs.StepAnswer.{gives, refused}
 use Rattle.records.specs.Lists.{joined}
 use Rattle.records.specs.Records.{Loc, Kind, Assign, Body, BL, BQ, BV, BC, BM, BF, body-bytes, Binding, binding-bytes, Bindings, bindings-bytes, list-of, to-bindings}
 use Rattle.records.specs.Valid.{IsLet}

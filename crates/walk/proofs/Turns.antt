@@ -12,11 +12,11 @@ use Rattle.names.specs.declared.Refusal.{Refusal}
 use Rattle.names.proofs.Frames.{same-refl, same-wider, same-then, at-below, copied-at, movable-up}
 use Rattle.names.proofs.Parts.{into}
 use Rattle.names.proofs.Places.{at-place, at-left, at-right, at-join}
-use Rattle.records.specs.Answer.{Gives}
+use Rattle.records.specs.StepAnswer.{Gives}
 use Rattle.records.specs.Records.{Body, body-bytes, Bodies, []ᵇ, _∷ᵇ_, bodies-bytes, bodies-count}
 use Rattle.records.specs.declared.Step.{Step}
 use Rattle.records.specs.declared.Step.the-variants.{Done, Refused}
-use Rattle.records.proofs.Answers.{Made, made, unmade}
+use Rattle.records.proofs.StepAnswers.{Made, made, unmade}
 use Rattle.walk.specs.Arena.{MapAt, outcome}
 use Rattle.walk.specs.CallWalks.{every, EachFine, bodies-room, ElementsReady, MadeBodies, WalksElements, backs, BackRoom, PutsBack}
 use Rattle.walk.specs.Draws.{atoms, bodies-atoms, dbl}

@@ -18,7 +18,7 @@ use Rattle.records.specs.declared.NameView.{NameView}
 use Rattle.records.specs.declared.SexpView.{SexpView}
 use Rattle.records.specs.declared.SexpView.the-variants.{Pair, Atom}
 use Rattle.walk.specs.Arena.{named}
-use Rattle.walk.specs.Inventing.{atom-size}
+use Rattle.walk.specs.DrawnMaps.{atom-size}
 use Rattle.walk.specs.RenameInCons.{rename-in-cons, rename-in-qq, rename-atom}
 use Rattle.names.proofs.Fields.{name-field-length}
 

@@ -14,7 +14,7 @@ use Rattle.names.specs.declared.Refusal.{Refusal}
 use Rattle.records.specs.Limits.{level-limit}
 use Rattle.records.specs.Records.{Loc, Sexp, SN, SC, SI, SQ, SA, Parallel, Sequential, Assign, Pattern, Name, Complex, Body, BL, BQ, BV, BC, BM, BF, Bodies, []ᵇ, _∷ᵇ_, Tail, no-tail, tail, Binding, BB, Bindings, Helper, HC, HM, HD, HN, HR, Helpers, []ʰ, _∷ʰ_, Form, CF, to-bindings, list-of}
 use Rattle.records.proofs.Complete.{bindings-same}
-use Rattle.ordering.specs.Toposort.{Outcome, ordered, deadlock}
+use Rattle.ordering.specs.Toposort.{Toposorted, ordered, deadlock}
 use Rattle.ordering.specs.Lawful.{Full}
 use Rattle.ordering.specs.Words.{item, items, toposort-assign-bindings}
 use Rattle.ordering.proofs.Toposort.{sound, sound-length, complete, found}
@@ -365,7 +365,7 @@ module _ (F : ℕ) where
             all-cons (record { good = λ back w. subst (Finished F (entry c (some a))) (same-some w) (finished-assign is q c x e); order = (is, full-order (list-of bs) is q); back = a; is-back = refl }) f
         go₂ c x is q (refused log r) e f = (all-cons (unfinished c) (f .0), later (all-cons (is, full-order (list-of bs) is q) all-none) (f .1))
 
-        go : (c x : ℕ) (o : Outcome) → toposort-assign-bindings (list-of bs) ≡ o
+        go : (c x : ℕ) (o : Toposorted) → toposort-assign-bindings (list-of bs) ≡ o
             → Fine (logged (entry c) (step F body-size (elim o as (λ _. M Body) [ deadlock _ ↦ refuse (deadlocked l) | ordered is ↦ rename-args-ordered F (walk F fuel) l k h (list-of bs) b is ]) c x))
         go c x (deadlock is) q = (
           all-cons (unfinished c) all-none,

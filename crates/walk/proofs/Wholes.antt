@@ -13,11 +13,11 @@ use Rattle.names.specs.Segments.{At, SameOutside}
 use Rattle.names.specs.declared.Refusal.{Refusal}
 use Rattle.names.proofs.Frames.{same-wider}
 use Rattle.names.proofs.Parts.{part, back, part-length, at-back, same-back}
-use Rattle.records.specs.Answer.{Outcome, gives, refuses, Gives, gave, refused}
+use Rattle.records.specs.StepAnswer.{Outcome, gives, refuses, Gives, gave, refused}
 use Rattle.records.specs.Records.{Body, body-bytes}
 use Rattle.records.specs.declared.Step.{Step}
 use Rattle.records.specs.declared.Step.the-variants.{Done, Refused}
-use Rattle.records.proofs.Answers.{gives-back}
+use Rattle.records.proofs.StepAnswers.{gives-back}
 use Rattle.walk.specs.Arena.{MapAt, outcome}
 use Rattle.walk.specs.Steps.{M, over-long, _>>=_, step, body-size}
 use Rattle.walk.specs.Walking.{Leads, led, stopped, Finishes}

@@ -10,7 +10,7 @@ use lib.ListN.{length, take, drop}
 use Rattle.names.specs.Maps.{NameMap, map-bytes, Limited}
 use Rattle.names.specs.Names.{Bytes, name-field}
 use Rattle.names.specs.Segments.{At, SameOutside}
-use Rattle.records.specs.Answer.{Outcome, gives, refuses, Gives}
+use Rattle.records.specs.StepAnswer.{Outcome, gives, refuses, Gives}
 use Rattle.records.specs.Records.{head-width, Sexp, sexp-bytes}
 use Rattle.records.specs.Valid.{SexpFields, cons-depth}
 use Rattle.records.specs.declared.Step.{Step}

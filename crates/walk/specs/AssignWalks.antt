@@ -14,7 +14,7 @@ use Rattle.ordering.specs.Needs.{binding-limit}
 use Rattle.ordering.specs.Toposort.{ordered}
 use Rattle.ordering.specs.Words.{toposort-assign-bindings}
 use Rattle.ordering.specs.declared.Order.{Order}
-use Rattle.records.specs.Answer.{refuses, Gives}
+use Rattle.records.specs.StepAnswer.{refuses, Gives}
 use Rattle.records.specs.Depth.{binding-depth}
 use Rattle.records.specs.Limits.{most-longest}
 use Rattle.records.specs.Lists.{joined, Each}
@@ -27,7 +27,7 @@ use Rattle.walk.specs.Arena.{MapAt, outcome}
 use Rattle.walk.specs.Bodyforms.{Rules, walk, no-binding, args-then-in, rename-assign-binding, rename-assign-bindings}
 use Rattle.walk.specs.Draws.{sexp-atoms, atoms, binding-atoms, dbl, counter-most}
 use Rattle.walk.specs.Invent.{rename-in-cons-step}
-use Rattle.walk.specs.Inventing.{map-growth}
+use Rattle.walk.specs.DrawnMaps.{map-growth}
 use Rattle.walk.specs.Room.{room}
 use Rattle.walk.specs.Steps.{M, _>>=_, ret, sexp-size, body-size, child, further, step}
 use Rattle.walk.specs.Walking.{count-of, from-sum, AnyBody, Fine, Ready, Tells, BodyReady}
@@ -71,10 +71,10 @@ pub record Within (F most size wrote len x x′ : ℕ) : Type 0 where
 
 -- What a step on bindings answers that runs from the counter c and the sum x: its tree u, whose bytes stand at their place; the map that `u .0` says at the end of memory;
 -- the counter and the sum from which whatever follows goes on; or a refusal, whatever follows.
-pub data Makes {A : Type 0} (f : NameMap × A → Bytes) (Has : NameMap × A → Type 0) (F most size : ℕ) (new : Bytes) (place : ℕ → ℕ) (run : M (NameMap × A)) (c x : ℕ) (r : Made) : Type 0 where
+pub data MakesRun {A : Type 0} (f : NameMap × A → Bytes) (Has : NameMap × A → Type 0) (F most size : ℕ) (new : Bytes) (place : ℕ → ℕ) (run : M (NameMap × A)) (c x : ℕ) (r : Made) : Type 0 where
   made : (u : NameMap × A) (len c′ x′ : ℕ) → Has u → ((k : NameMap × A → M Body) → outcome ((run >>= k) c x) ≡ outcome (k u c′ x′)) → r ≡ Done (length (f u)) x′ len c′
-      → At new (place (length (f u))) (f u) → MapAt new len (u .0) → Within F most size (length (f u)) len x x′ → Makes f Has F most size new place run c x r
-  stopped : (q : Refusal) → ((k : NameMap × A → M Body) → outcome ((run >>= k) c x) ≡ refuses q) → r ≡ Refused q → Makes f Has F most size new place run c x r
+      → At new (place (length (f u))) (f u) → MapAt new len (u .0) → Within F most size (length (f u)) len x x′ → MakesRun f Has F most size new place run c x r
+  stopped : (q : Refusal) → ((k : NameMap × A → M Body) → outcome ((run >>= k) c x) ≡ refuses q) → r ≡ Refused q → MakesRun f Has F most size new place run c x r
 
 -- whatever it is
 abbrev pub AnyMade : {A : Type 0} → A → Type 0
@@ -86,7 +86,7 @@ Shaped l nl u = (p : Sexp) × (b : Body) × (u .1 ≡ BB l nl (Complex p) b)
 
 -- its pattern and body, made at free
 abbrev pub MakesParts : Loc → Loc → ℕ → ℕ → ℕ → Bytes → ℕ → M (NameMap × Binding) → ℕ → ℕ → Made → Type 0
-MakesParts l nl F most size new free run c x r = Makes (λ u. inner (u .1)) (Shaped l nl) F most size new (λ n. free) run c x r
+MakesParts l nl F most size new free run c x r = MakesRun (λ u. inner (u .1)) (Shaped l nl) F most size new (λ n. free) run c x r
 
 -- a Complex pattern by the map, and In-body of what Own gave of the body; and before that, Own of the body
 module _ (F : ℕ) (q : Rules) (l nl : Loc) where
@@ -159,7 +159,7 @@ pub record BindingReady (mem : Bytes) (n sum : ℕ) (t : Task) : Type 0 where
 abbrev pub MakesBinding : Bytes → Bytes → ℕ → Task → Made → Type 0
 MakesBinding old new sum t r =
     Tells binding-bytes (AssignBinding (t .f) (t .depth))
-    (λ m b. Makes (λ u. binding-bytes (u .1)) AnyMade (t .f) (t .map + map-growth * length (binding-bytes b)) (length (binding-bytes b)) new (λ n. t .free)
+    (λ m b. MakesRun (λ u. binding-bytes (u .1)) AnyMade (t .f) (t .map + map-growth * length (binding-bytes b)) (length (binding-bytes b)) new (λ n. t .free)
     (rename-assign-binding (t .f) (walk (t .f) (t .depth)) m b) (t .counter) sum r) old new t
 
 -- bindings stand one after the other, and `starts` says where each starts and where the last ends
@@ -194,7 +194,7 @@ pub record BindingsReady (mem : Bytes) (row starts : List ℕ) (t : Task) : Type
 pub record MakesBindings (old new : Bytes) (row starts : List ℕ) (t : Task) (r : Made) : Type 0 where
   pub frame : SameOutside old new (t .free - 2 * t .f) (length old)
   pub says : (bs : List Binding) → Each (AssignBinding (t .f) (t .depth)) bs → BindingStarts old starts bs
-      → Makes (λ u. joined binding-bytes (u .1)) (λ u. length (u .1) ≡ length row) (t .f) (map-growth * t .f) (at-all binding-size bs row) new (λ n. t .free - n)
+      → MakesRun (λ u. joined binding-bytes (u .1)) (λ u. length (u .1) ≡ length row) (t .f) (map-growth * t .f) (at-all binding-size bs row) new (λ n. t .free - n)
       (rename-assign-bindings (t .f) (walk (t .f) (t .depth)) bs row [] []) (t .counter) 0 r
 
 -- where the bindings of a let start, and its body

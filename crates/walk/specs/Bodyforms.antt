@@ -10,6 +10,7 @@ use Rattle.names.specs.Maps.{NameMap}
 use Rattle.names.specs.Refusals.{refusing, place-at}
 use Rattle.names.specs.declared.Refusal.{Refusal}
 use Rattle.records.specs.Records.{Loc, loc-number, Sexp, SN, Parallel, Sequential, Assign, Name, Complex, Body, BL, BQ, BV, BC, BM, BF, Bodies, []ᵇ, _∷ᵇ_, Tail, no-tail, tail, Binding, BB, Bindings, []ᵍ, _∷ᵍ_, to-bindings, list-of, byte}
+pub use Rattle.ordering.specs.Assign.{no-binding}
 use Rattle.ordering.specs.Toposort.{ordered, deadlock}
 use Rattle.ordering.specs.Words.{toposort-assign-bindings}
 use Rattle.walk.specs.RenameInCons.{rename-atom}
@@ -45,10 +46,6 @@ log-assign (BF l k ca c a b) m = m
 -- 5: an assign with no order, its place the L
 abbrev pub deadlocked : Loc → Refusal
 deadlocked l = refusing 5 (place-at (loc-number l))
-
--- what `getD` gives for an index past the last binding; no order has one
-unfoldable pub no-binding : Binding
-no-binding = BB [] [] (Name []) (BV (SN []))
 
 -- In-body of a BQ: an atom alone goes by the map
 unfoldable pub rename-in-quoted : NameMap → Sexp → M Body
@@ -197,5 +194,5 @@ module _ (F : ℕ) where
 
 -- unfolds with every definition of this file
 unfoldable pub computing-bodyforms : Unit {0}
-unfolding desugar-sequential-let-bindings logged log-assign no-binding each-body call-tail each-binding-body args-then-in rename-args-let rename-args-desugared rename-args-sequential rename-assign-binding rename-assign-bindings rename-args-ordered rename-args-assign rename-args-bodyform in-elements rename-in-quoted rename-in-value rename-in-bodyform body-rules walk
+unfolding desugar-sequential-let-bindings logged log-assign each-body call-tail each-binding-body args-then-in rename-args-let rename-args-desugared rename-args-sequential rename-assign-binding rename-assign-bindings rename-args-ordered rename-args-assign rename-args-bodyform in-elements rename-in-quoted rename-in-value rename-in-bodyform body-rules walk
 computing-bodyforms = tt

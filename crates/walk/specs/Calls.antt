@@ -2,7 +2,7 @@
 -- Assumes nothing.
 use mathlib.Core.List.{List, []}
 use Prim.Native.Nat.{ℕ}
-use Rattle.names.specs.Answers.{computing-answers, Result, refused-answer, delivered}
+use Rattle.names.specs.CallAnswer.{computing-answers, Result, refused-answer, delivered}
 use Rattle.names.specs.Names.{computing-names, Bytes}
 use Rattle.names.specs.Maps.{computing-maps}
 use Rattle.records.specs.Limits.{level-limit}

@@ -3,7 +3,7 @@
 -- Assumes nothing.
 use mathlib.Core.List.{List, [], _∷_}
 use Prim.Native.Nat.{ℕ, zero, suc, _+_, _^_}
-use Rattle.names.specs.Answers.{max-counter}
+use Rattle.names.specs.CallAnswer.{max-counter}
 use Rattle.records.specs.Records.{Sexp, SN, SC, SI, SQ, SA, Pattern, Name, Complex, Body, BL, BQ, BV, BC, BM, BF, Bodies, []ᵇ, _∷ᵇ_, Tail, no-tail, tail, Binding, BB, Bindings, []ᵍ, _∷ᵍ_, Helper, HC, HM, HD, HN, HR, Helpers, []ʰ, _∷ʰ_, Form, CF}
 
 -- the atoms of an S record

@@ -10,7 +10,7 @@ use Rattle.names.specs.Maps.{NameMap}
 use Rattle.names.specs.Names.{Bytes}
 use Rattle.names.specs.Segments.{At}
 use Rattle.names.specs.declared.Refusal.{Refusal}
-use Rattle.records.specs.Answer.{Gives}
+use Rattle.records.specs.StepAnswer.{Gives}
 use Rattle.records.specs.Depth.{helper-depth, form-depth}
 use Rattle.records.specs.Records.{Sexp, sexp-bytes, Body, body-bytes, Helper, helper-bytes, Helpers, []ʰ, _∷ʰ_, helpers-bytes, helpers-count, Form, form-bytes}
 use Rattle.records.specs.Valid.{ValidCount, ValidSexp, ValidHelper, ValidForm, HelperNoMod, FormNoMod}
@@ -128,9 +128,9 @@ helpers-by F Further d m = further-helpers F (form-walk F d .in-helperform m)
 
 -- What a piece of a rule answers whose run starts from the counter c and the sum x and reads n bytes: `came`, what the run gives, at free, with the counter and
 -- the sum then; `stayed`, its refusal.
-pub data Comes {A : Type 0} (bytes : A → Bytes) (F : ℕ) (new : Bytes) (free n : ℕ) (run : M A) (c x : ℕ) (r : Piece) : Type 0 where
-  came : (u : A) (c′ x′ : ℕ) → DoneWith (run c x) u c′ x′ → x′ ≤ F → r ≡ Took n (length (bytes u)) x′ c′ → At new free (bytes u) → Comes bytes F new free n run c x r
-  stayed : (q : Refusal) → RefusedWith (run c x) q → r ≡ Stopped q → Comes bytes F new free n run c x r
+pub data ComesOut {A : Type 0} (bytes : A → Bytes) (F : ℕ) (new : Bytes) (free n : ℕ) (run : M A) (c x : ℕ) (r : Piece) : Type 0 where
+  came : (u : A) (c′ x′ : ℕ) → DoneWith (run c x) u c′ x′ → x′ ≤ F → r ≡ Took n (length (bytes u)) x′ c′ → At new free (bytes u) → ComesOut bytes F new free n run c x r
+  stayed : (q : Refusal) → RefusedWith (run c x) q → r ≡ Stopped q → ComesOut bytes F new free n run c x r
 
 -- the sum with a new result of so many bytes; one that is replaced leaves it first
 abbrev pub new-sum : Way → ℕ → ℕ → ℕ → ℕ
@@ -144,7 +144,7 @@ pub record Sumable (way : Way) (sum read written : ℕ) : Type 0 where
   pub small : sum + written < 4294967296
 
 -- a result that is added: the new sum, or 7
-pub record Counts (way : Way) (sum read written f c : ℕ) (r : Piece) : Type 0 where
+pub record AddsResult (way : Way) (sum read written f c : ℕ) (r : Piece) : Type 0 where
   pub fits : new-sum way sum read written ≤ f → r ≡ Took read written (new-sum way sum read written) c
   pub long : f < new-sum way sum read written → r ≡ Stopped over-long
 
@@ -158,7 +158,7 @@ pub record ChildReady (k : Child) (way : Way) (mem : Bytes) (sum : ℕ) (t : Tas
 abbrev pub WalksChild : Child → Way → Bytes → Bytes → ℕ → Task → Piece → Type 0
 WalksChild k way old new sum t r =
     Tells (tree-bytes k) (FineTree k (t .f) (t .depth))
-    (λ m u. Comes (tree-bytes k) (t .f) new (t .free) (length (tree-bytes k u)) (child-by (t .f) k way (t .depth) m u) (t .counter) sum r) old new t
+    (λ m u. ComesOut (tree-bytes k) (t .f) new (t .free) (length (tree-bytes k u)) (child-by (t .f) k way (t .depth) m u) (t .counter) sum r) old new t
 
 -- fine helpers
 unfoldable pub EachFineHelper : ℕ → ℕ → Helpers → Type 0
@@ -185,7 +185,7 @@ pub record HelpersReady (way : Way) (mem : Bytes) (count sum : ℕ) (t : Task) :
 abbrev pub WalksHelpers : Way → Bytes → Bytes → ℕ → ℕ → Task → Piece → Type 0
 WalksHelpers way old new count sum t r =
     Tells helpers-bytes (FineHelpers (t .f) (t .depth) count)
-    (λ m hs. Comes helpers-bytes (t .f) new (t .free) (length (helpers-bytes hs)) (helpers-by (t .f) way (t .depth) m hs) (t .counter) sum r) old new t
+    (λ m hs. ComesOut helpers-bytes (t .f) new (t .free) (length (helpers-bytes hs)) (helpers-by (t .f) way (t .depth) m hs) (t .counter) sum r) old new t
 
 -- the trees of a rest
 abbrev pub RestOf : Rest → Type 0
@@ -255,7 +255,7 @@ pub record RestReady (k : Rest) (way : Way) (mem : Bytes) (sum : ℕ) (t : Task)
 abbrev pub WalksRest : Rest → Way → Bytes → Bytes → ℕ → Task → Piece → Type 0
 WalksRest k way old new sum t r =
     Tells (rest-bytes k) (FineRest k (t .f) (t .depth))
-    (λ m u. Comes (rest-bytes k) (t .f) new (t .free) (length (rest-bytes k u)) (rest-by (t .f) k way (t .depth) m u) (t .counter) sum r) old new t
+    (λ m u. ComesOut (rest-bytes k) (t .f) new (t .free) (length (rest-bytes k u)) (rest-by (t .f) k way (t .depth) m u) (t .counter) sum r) old new t
 
 -- a rest by the args-rules, and then that by the in-rules
 abbrev pub both-by : ℕ → (k : Rest) → ℕ → NameMap → RestOf k → M (RestOf k)
@@ -271,7 +271,7 @@ pub record BothRestReady (k : Rest) (mem : Bytes) (sum : ℕ) (t : Task) : Type 
 abbrev pub WalksBothRest : Rest → Bytes → Bytes → ℕ → Task → Piece → Type 0
 WalksBothRest k old new sum t r =
     Tells (rest-bytes k) (FineRest k (t .f) (t .depth))
-    (λ m u. Comes (rest-bytes k) (t .f) new (t .free) (length (rest-bytes k u)) (both-by (t .f) k (t .depth) m u) (t .counter) sum r) old new t
+    (λ m u. ComesOut (rest-bytes k) (t .f) new (t .free) (length (rest-bytes k u)) (both-by (t .f) k (t .depth) m u) (t .counter) sum r) old new t
 
 -- a head, and a rest
 abbrev pub headed : (k : Rest) → Bytes → RestOf k → Bytes

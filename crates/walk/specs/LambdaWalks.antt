@@ -6,7 +6,7 @@ use lib.ListN.{length}
 use Rattle.names.specs.Maps.{NameMap}
 use Rattle.names.specs.Names.{Bytes}
 use Rattle.names.specs.Segments.{At}
-use Rattle.records.specs.Answer.{Gives}
+use Rattle.records.specs.StepAnswer.{Gives}
 use Rattle.records.specs.Records.{Loc, Sexp, Body, BF, body-bytes}
 use Rattle.records.specs.Views.{lambda-head, Parted}
 use Rattle.records.specs.declared.Step.{Step}
@@ -23,7 +23,7 @@ use Rattle.walk.specs.declared.Task.{Task}
 pub record Captured : Type 0 where
   pub loc : Loc
   pub keyword : Bytes
-  pub binders : Sexp
+  pub capture-args : Sexp
   pub captures : Body
   pub args : Sexp
   pub body : Body
@@ -31,7 +31,7 @@ pub record Captured : Type 0 where
 
 -- the BF itself
 abbrev pub lambda-of : Captured → Body
-lambda-of k = BF (k .loc) (k .keyword) (k .binders) (k .captures) (k .args) (k .body)
+lambda-of k = BF (k .loc) (k .keyword) (k .capture-args) (k .captures) (k .args) (k .body)
 
 -- its bytes
 abbrev pub lambda-bytes : Captured → Bytes
@@ -40,14 +40,14 @@ lambda-bytes k = body-bytes (lambda-of k)
 -- In-body of a BF from its captures on: its capture args by the map, its args as they are, and both rules for its body
 unfoldable pub after-captures : ℕ → Rules → NameMap → Captured → M Body
 after-captures F r m k = do
-  ca′ ← child F sexp-size (rename-in-cons-step F false m (k .binders))
+  ca′ ← child F sexp-size (rename-in-cons-step F false m (k .capture-args))
   b′ ← args-then-in F r m (k .body)
   ret (BF (k .loc) (k .keyword) ca′ (k .made) (k .args) b′)
 
 -- its head stands at free, and the x bytes of its captures behind the room for capture args
 pub record FineCaptured (mem : Bytes) (at args body x : ℕ) (t : Task) (k : Captured) : Type 0 where
   pub fine : Fine IsLambda (t .f) (t .depth) (lambda-of k)
-  pub parted : Parted at args body (k .loc) (k .keyword) (k .binders) (k .captures) (k .args)
+  pub parted : Parted at args body (k .loc) (k .keyword) (k .capture-args) (k .captures) (k .args)
   pub head : At mem (t .free) (lambda-head (k .loc) (k .keyword))
   pub out : At mem (t .free + at + t .f) (body-bytes (k .made))
   pub wrote : x ≡ length (body-bytes (k .made))

@@ -8,7 +8,7 @@ use lib.ListN.{length}
 use Rattle.names.specs.Maps.{NameMap}
 use Rattle.names.specs.Names.{Bytes, ascii}
 use Rattle.names.specs.Segments.{At, SameOutside}
-use Rattle.records.specs.Answer.{Gives}
+use Rattle.records.specs.StepAnswer.{Gives}
 use Rattle.records.specs.Limits.{most-longest}
 use Rattle.records.specs.Lists.{joined, Each}
 use Rattle.records.specs.Records.{Loc, Parallel, Pattern, pattern-field, Body, BL, body-bytes, Binding, BB, binding-bytes, Bindings, to-bindings, list-of}

@@ -3,7 +3,7 @@ pub mod Steps
 pub mod Sums
 pub mod Invent
 pub mod Arena
-pub mod Inventing
+pub mod DrawnMaps
 pub mod Plans
 pub mod Patterns
 pub mod Bodyforms

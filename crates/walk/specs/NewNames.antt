@@ -10,7 +10,7 @@ use Rattle.names.specs.Maps.{NameMap}
 use Rattle.names.specs.Names.{Bytes, name-field, gensym}
 use Rattle.names.specs.Segments.{At, SameOutside}
 use Rattle.names.specs.declared.Refusal.{Refusal}
-use Rattle.records.specs.Answer.{gives, refuses}
+use Rattle.records.specs.StepAnswer.{gives, refuses}
 use Rattle.records.specs.Limits.{cons-limit}
 use Rattle.records.specs.Records.{Sexp, sexp-bytes, Pattern, Name, Complex, pattern-field, Body}
 use Rattle.records.specs.Valid.{ValidName, ValidSexp, ValidPattern}
@@ -19,7 +19,7 @@ use Rattle.records.specs.declared.Step.the-variants.{Done as Written, Refused a
 use Rattle.walk.specs.Arena.{MapAt, Substitutes, outcome}
 use Rattle.walk.specs.Draws.{pattern-atoms}
 use Rattle.walk.specs.Invent.{invent-new-names-sexp}
-use Rattle.walk.specs.Inventing.{atom-size, counter-limit, map-growth}
+use Rattle.walk.specs.DrawnMaps.{atom-size, counter-limit, map-growth}
 use Rattle.walk.specs.Patterns.{make-binding-unique}
 use Rattle.walk.specs.RenameInCons.{rename-in-cons}
 use Rattle.walk.specs.Steps.{M, _>>=_, over-long}

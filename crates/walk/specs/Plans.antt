@@ -25,7 +25,7 @@ substitution Outside = rename-in-cons true
 substitution Inside = rename-in-qq true
 
 -- an SC whose parts go on by the rule
-pub record Goes (rule : NameMap → Sexp → Sexp) (t : Sexp) : Type 0 where
+pub record GoesByParts (rule : NameMap → Sexp → Sexp) (t : Sexp) : Type 0 where
   pub l : Loc
   pub h : Sexp
   pub u : Sexp
@@ -44,7 +44,7 @@ pub record Quoted (rule : NameMap → Sexp → Sexp) (t : Sexp) (at : ℕ) : Typ
   pub makes : (m : NameMap) → rule m t ≡ SC l h (SC (loc-of v) v (SN (loc-of v)))
 
 -- an SC whose only element x, which stands at `at`, goes on alone by the rule of `next`
-pub record Lone (rule : NameMap → Sexp → Sexp) (next : Quasi) (s : Bytes) (t : Sexp) (at : ℕ) : Type 0 where
+pub record OnlyElement (rule : NameMap → Sexp → Sexp) (next : Quasi) (s : Bytes) (t : Sexp) (at : ℕ) : Type 0 where
   pub x : Sexp
   pub fields : SexpFields x
   pub there : At s at (sexp-bytes x)
@@ -57,8 +57,8 @@ pub data Planned (rule : NameMap → Sexp → Sexp) (s : Bytes) (p : Plan) (t : 
   keeps : p ≡ Kept (length (sexp-bytes t)) → ((m : NameMap) → rule m t ≡ t) → Planned rule s p t
   renames : p ≡ ByMap → ((m : NameMap) → rule m t ≡ rename-atom m t) → Planned rule s p t
   quotes : (at : ℕ) → p ≡ Requoted at (length (sexp-bytes t)) → Quoted rule t at → Planned rule s p t
-  goes-alone : (next : Quasi) (at : ℕ) → p ≡ Alone next at (length (sexp-bytes t)) → Lone rule next s t at → Planned rule s p t
-  goes-on : p ≡ Parts → Goes rule t → Planned rule s p t
+  goes-alone : (next : Quasi) (at : ℕ) → p ≡ Alone next at (length (sexp-bytes t)) → OnlyElement rule next s t at → Planned rule s p t
+  goes-on : p ≡ Parts → GoesByParts rule t → Planned rule s p t
 
 -- p is the plan for the record at the start
 pub record Plans (rule : NameMap → Sexp → Sexp) (s : Bytes) (p : Plan) : Type 0 where
@@ -66,14 +66,14 @@ pub record Plans (rule : NameMap → Sexp → Sexp) (s : Bytes) (p : Plan) : Typ
 
 -- an SC whose parts go on stands at the start
 pub record PairAtStart (rule : NameMap → Sexp → Sexp) (s : Bytes) : Type 0 where
-  pub goes : (t : Sexp) → SexpFields t → At s 0 (sexp-bytes t) → Goes rule t
+  pub goes : (t : Sexp) → SexpFields t → At s 0 (sexp-bytes t) → GoesByParts rule t
 
 -- a record t that is a proper list of one element, which stands at r behind its mark; or is none, and r is 0
 pub data OnlyAt (t : Sexp) (r : ℕ) : Type 0 where
   only-none : r ≡ 0 → only t ≡ none → OnlyAt t r
   only-one : (l : Loc) (x z : Sexp) → t ≡ SC l x z → nilp z ≡ true → r ≡ head-width → OnlyAt t r
 
-pub record Onlys (s : Bytes) (r : ℕ) : Type 0 where
+pub record SeesOnly (s : Bytes) (r : ℕ) : Type 0 where
   pub within : r ≤ length s
   pub onlys : (t : Sexp) → SexpFields t → At s 0 (sexp-bytes t) → OnlyAt t r
 
@@ -83,12 +83,12 @@ pub record HeadAt (s : Bytes) (n : ℕ) : Type 0 where
   pub is : (l : Loc) (h u : Sexp) → SexpFields (SC l h u) → At s 0 (sexp-bytes (SC l h u)) → n ≡ head-width
 
 -- a tail u that is a proper list of one element, which stands at r behind the head h; or is none, and r is 0
-pub data SingleAt (h u : Sexp) (r : ℕ) : Type 0 where
-  single-none : r ≡ 0 → only u ≡ none → SingleAt h u r
-  single-one : (l : Loc) (x z : Sexp) → u ≡ SC l x z → nilp z ≡ true → r ≡ head-width + length (sexp-bytes h) + head-width → SingleAt h u r
+pub data OnlyOfTailAt (h u : Sexp) (r : ℕ) : Type 0 where
+  single-none : r ≡ 0 → only u ≡ none → OnlyOfTailAt h u r
+  single-one : (l : Loc) (x z : Sexp) → u ≡ SC l x z → nilp z ≡ true → r ≡ head-width + length (sexp-bytes h) + head-width → OnlyOfTailAt h u r
 
-pub record Singles (s : Bytes) (r : ℕ) : Type 0 where
-  pub singles : (l : Loc) (h u : Sexp) → SexpFields (SC l h u) → At s 0 (sexp-bytes (SC l h u)) → SingleAt h u r
+pub record SeesOnlyOfTail (s : Bytes) (r : ℕ) : Type 0 where
+  pub singles : (l : Loc) (h u : Sexp) → SexpFields (SC l h u) → At s 0 (sexp-bytes (SC l h u)) → OnlyOfTailAt h u r
 
 -- p is the plan for an SC at the start
 pub record PlansPair (rule : NameMap → Sexp → Sexp) (s : Bytes) (p : Plan) : Type 0 where

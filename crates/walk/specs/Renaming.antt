@@ -3,9 +3,9 @@
 use mathlib.Core.Bool.{true}
 use Prim.Native.Nat.{ℕ, _≤_}
 use lib.ListN.{length, take}
-use Rattle.names.specs.Answers.{Result, refused-answer, delivered}
+use Rattle.names.specs.CallAnswer.{Result, refused-answer, delivered}
 use Rattle.names.specs.Names.{Bytes}
-use Rattle.records.specs.Answer.{Gives}
+use Rattle.records.specs.StepAnswer.{Gives}
 use Rattle.records.specs.Limits.{level-limit}
 use Rattle.records.specs.declared.Step.{Step}
 use Rattle.records.specs.declared.Step.the-variants.{Done, Refused}

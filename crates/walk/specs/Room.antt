@@ -1,7 +1,7 @@
 -- How much memory the walk has: what a level of nesting may hold from `free` on, and all levels together. docs/DECISIONS.md, 'Room'.
 -- Assumes nothing.
 use Prim.Native.Nat.{ℕ, zero, suc, _+_, _*_}
-use Rattle.walk.specs.Inventing.{map-growth}
+use Rattle.walk.specs.DrawnMaps.{map-growth}
 
 -- what is set aside in one level, in times F: a desugared let and a pattern; or the patterns and names of a let; or the bindings of an assign
 abbrev pub aside-factor : ℕ

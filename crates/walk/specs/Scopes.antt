@@ -9,7 +9,7 @@ use Rattle.names.specs.Maps.{NameMap}
 use Rattle.names.specs.Names.{Bytes}
 use Rattle.names.specs.Segments.{At, SameOutside}
 use Rattle.names.specs.declared.Refusal.{Refusal}
-use Rattle.records.specs.Answer.{refuses}
+use Rattle.records.specs.StepAnswer.{refuses}
 use Rattle.records.specs.Limits.{most-longest}
 use Rattle.records.specs.Lists.{joined, Each}
 use Rattle.records.specs.Parts.{ValidBinding}

@@ -4,7 +4,7 @@ use mathlib.Core.Bool.{true}
 use Prim.Native.Nat.{ℕ, zero, suc, _+_, _*_, _-_}
 use lib.ListN.{length}
 use Rattle.names.specs.Names.{Bytes}
-use Rattle.records.specs.Answer.{Gives}
+use Rattle.records.specs.StepAnswer.{Gives}
 use Rattle.records.specs.Records.{Body, body-bytes}
 use Rattle.records.specs.declared.Step.{Step}
 use Rattle.walk.specs.Arena.{outcome}

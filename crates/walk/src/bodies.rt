@@ -809,7 +809,7 @@ fn in_lambda(mem: &mut [u8], t: Task) -> Step
     ensures { λ r. ⌜ Walks IsLambda false (now (mem .entry)) (now (mem .exit)) t r ⌝ }
 {
     let v = lambda_view(mem);
-    let at = v.binders;
+    let at = v.capture_args;
     let q = v.captures;
     let args = v.args;
     let body = v.body;

@@ -26,7 +26,7 @@ use records::record::helper_mark;
 use records::skip::skip;
 ghost use mathlib.Core.Bool.{Bool, true, false};
 ghost use mathlib.Core.Path.{_≡_};
-ghost use Rattle.walk.specs.FormWalks.{TreeReady, WalksTree, KeepsHelper, WalksChildren, AfterReady, WalksAfter, RenewedReady, WalksRenewed, BothRestReady, WalksBothRest, RestReady, WalksRest, HelpersReady, WalksHelpers, ChildReady, WalksChild, by-args, Sumable, Counts, new-sum};
+ghost use Rattle.walk.specs.FormWalks.{TreeReady, WalksTree, KeepsHelper, WalksChildren, AfterReady, WalksAfter, RenewedReady, WalksRenewed, BothRestReady, WalksBothRest, RestReady, WalksRest, HelpersReady, WalksHelpers, ChildReady, WalksChild, by-args, Sumable, AddsResult, new-sum};
 ghost use Rattle.walk.specs.declared.Child.the-variants.{Helperform, Compileform};
 ghost use Rattle.walk.specs.declared.Rest.the-variants.{Listed, Parts};
 
@@ -355,7 +355,7 @@ fn by_args(way: Way) -> bool
 // A child that read and wrote so many bytes: its result is added to the sum.
 fn counted(read: usize, written: usize, way: Way, sum: usize, f: usize, counter: u64) -> Piece
     requires { ⌜ Sumable way sum read written ⌝ }
-    ensures { λ r. ⌜ Counts way sum read written f counter r ⌝ }
+    ensures { λ r. ⌜ AddsResult way sum read written f counter r ⌝ }
 {
     let s = added(way, sum, read, written);
     if f < s {

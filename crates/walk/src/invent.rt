@@ -16,7 +16,7 @@ use records::sexps::sexp_view;
 use records::skip::skip_sexp;
 ghost use lib.ListN.{length};
 ghost use Rattle.names.specs.Segments.{Filled};
-ghost use Rattle.walk.specs.Inventing.{between, entry, EntryRoom, NameRoom, Drawable, Grown, Pushes, InventsAtom, InventsSexp};
+ghost use Rattle.walk.specs.DrawnMaps.{between, entry, EntryRoom, NameRoom, Drawable, Grown, Pushes, InventsAtom, InventsSexp};
 
 // Writes an entry of a map at a place: the name from start to end, which stands before it, and a
 // new one.

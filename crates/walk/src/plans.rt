@@ -12,7 +12,7 @@ ghost use Rattle.names.specs.Segments.{At};
 ghost use Rattle.records.specs.Records.{Sexp, sexp-bytes};
 ghost use Rattle.records.specs.Sexps.{nilp};
 ghost use Rattle.records.specs.Valid.{SexpFields};
-ghost use Rattle.walk.specs.Plans.{Plans, PlansPair, IsAtom, Onlys, HeadAt, Singles, substitution};
+ghost use Rattle.walk.specs.Plans.{Plans, PlansPair, IsAtom, SeesOnly, HeadAt, SeesOnlyOfTail, substitution};
 ghost use Rattle.walk.specs.RenameInCons.{rename-in-cons, rename-in-qq};
 
 // Whether the S record that s starts with ends a proper list.
@@ -48,7 +48,7 @@ fn is_atom(s: &[u8], word: &[u8]) -> bool
 
 // Where the element starts if the S record that s starts with is a proper list of one; or else 0.
 fn only(s: &[u8]) -> usize
-    ensures { λ r. ⌜ Onlys (now (s .entry)) r ⌝ }
+    ensures { λ r. ⌜ SeesOnly (now (s .entry)) r ⌝ }
 {
     let v = sexp_view(s);
     let SexpView::Pair(head) = v else {
@@ -64,7 +64,7 @@ fn only(s: &[u8]) -> usize
 // Where the element starts if the tail of the SC at the start is a proper list of one; or else 0.
 fn single(s: &[u8], head: usize) -> usize
     requires { ⌜ HeadAt (now s) head ⌝ }
-    ensures { λ r. ⌜ Singles (now (s .entry)) r ⌝ }
+    ensures { λ r. ⌜ SeesOnlyOfTail (now (s .entry)) r ⌝ }
 {
     let tail = head + skip_sexp(&s[head..]);
     let x = only(&s[tail..]);

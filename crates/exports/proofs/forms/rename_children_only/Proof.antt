@@ -2,7 +2,7 @@
 use borrow.Author.Needs.{needs}
 use Rattle.walk.specs.Assigns.{AssignsOrdered}
 use Rattle.walk.specs.Calls.{children-visits}
-use Rattle.exports.proofs.Answers.{told-refusal}
+use Rattle.exports.proofs.ToldAnswers.{told-refusal}
 use Rattle.exports.proofs.forms.rename_children_only.Statement.{statement}
 use Rattle.exports.proofs.forms.rename_children_only.Tie as tie
 

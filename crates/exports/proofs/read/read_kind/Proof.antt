@@ -2,7 +2,7 @@
 use mathlib.Core.Path.{_∙_}
 use borrow.Author.Needs.{needs}
 use Rattle.exports.specs.Linked.{read-call}
-use Rattle.exports.proofs.Answers.{other-kind}
+use Rattle.exports.proofs.ToldAnswers.{other-kind}
 use Rattle.exports.proofs.read.read_kind.Statement.{statement}
 use Rattle.exports.proofs.read.read_kind.Tie as tie
 

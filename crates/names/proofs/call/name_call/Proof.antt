@@ -2,7 +2,7 @@
 use mathlib.Core.Path.{sym, _∙_}
 use native.Mathlib.Omega.{arith}
 use borrow.Author.Needs.{needs}
-use Rattle.names.proofs.Answers.{delivered-fits, delivered-short, name-call-counter, name-call-long, name-call-made}
+use Rattle.names.proofs.CallAnswers.{delivered-fits, delivered-short, name-call-counter, name-call-long, name-call-made}
 use Rattle.names.proofs.call.name_call.Statement.{statement}
 use Rattle.names.proofs.call.name_call.Tie as tie
 

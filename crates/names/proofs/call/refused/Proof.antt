@@ -1,6 +1,6 @@
 -- `names::call::refused` meets its contract. Assumes nothing.
 use mathlib.Core.Path.{refl}
-use Rattle.names.specs.Answers.{refused-answer}
+use Rattle.names.specs.CallAnswer.{refused-answer}
 use Rattle.names.proofs.call.refused.Statement.{statement}
 use Rattle.names.proofs.call.refused.Tie as tie
 

@@ -10,7 +10,7 @@ use lib.ListN.{length}
 use Rattle.names.specs.Names.{ascii}
 use Rattle.ordering.specs.Listing.{member-part, member-words}
 use Rattle.ordering.proofs.Bodies.{binding-reaches, let-reaches, call-reaches, tail-reaches, lambda-reaches, quote-reaches, value-reaches, body-lists, skip-lists}
-use Rattle.ordering.proofs.Several.{Goes, goes-first, goes-more, goes-end}
+use Rattle.ordering.proofs.Several.{ListsSoFar, goes-first, goes-more, goes-end}
 use Rattle.ordering.proofs.Sexps.{reaches-none, reaches-part, lists-reaches}
 use Rattle.records.proofs.record.body_mark.Reads as body-mark-reads
 use Rattle.records.proofs.bodies.call_view.Reads as call-view-reads
@@ -44,7 +44,7 @@ use Rattle.ordering.proofs.needs.+binding_needs+body_needs+call_needs+c
 use Rattle.ordering.proofs.needs.times.Reads as times
 use Rattle.ordering.proofs.needs.times.Kinds as times-kinds
 use Rattle.ordering.proofs.needs.+binding_needs+body_needs+call_needs+child+lambda_needs+let_needs+member_needs+times.Lts-times as times-lts
-use Rattle.ordering.proofs.needs.binder_needs.Reads as binder-needs-reads
+use Rattle.ordering.proofs.needs.capture_needs.Reads as capture-needs-reads
 use Rattle.ordering.proofs.needs.child_sexp.Reads as child-sexp-reads
 use Rattle.ordering.proofs.needs.let_word.Reads as let-word-reads
 use Rattle.ordering.proofs.needs.pattern_needs.Reads as pattern-needs-reads
@@ -137,7 +137,7 @@ abbrev child-calls : ℕ → child-lts.Claims
 child-calls t = (member-needs-below t, member-needs.Post)
 
 abbrev lambda-needs-calls : ℕ → lambda-needs-lts.Claims
-lambda-needs-calls t = (lambda-view-reads.Asked, lambda-view-reads.Learnt, word-reads.Asked, word-reads.Learnt, binder-needs-reads.Asked, binder-needs-reads.Learnt, child-sexp-reads.Asked, child-sexp-reads.Learnt, child-below t, child.Post)
+lambda-needs-calls t = (lambda-view-reads.Asked, lambda-view-reads.Learnt, word-reads.Asked, word-reads.Learnt, capture-needs-reads.Asked, capture-needs-reads.Learnt, child-sexp-reads.Asked, child-sexp-reads.Learnt, child-below t, child.Post)
 
 abbrev let-needs-calls : ℕ → let-needs-lts.Claims
 let-needs-calls t = (let-view-reads.Asked, let-view-reads.Learnt, let-word-reads.Asked, let-word-reads.Learnt, times-below t, times.Post, child-below t, child.Post)
@@ -194,7 +194,7 @@ lambda-needs-child-requires t c κs = (omega arith, (c .before .before .before .
 
 lambda-needs-returns : (t : ℕ) → lambda-needs-lts.Need-returns (lambda-needs-calls t) (lambda-needs-at t) lambda-needs.Post
 unfolding ascii
-lambda-needs-returns t c = lambda-reaches (c .before .before .before .before .before .before .before .before .before .before .before .before .before .before .before .before .before .lambda-view .ensures) (c .before .before .before .before .before .before .before .before .before .before .before .before .before .before .word .ensures) (c .before .before .before .before .before .before .before .before .before .before .binder-needs .ensures .1) (c .before .before .before .before .before .before .child-sexp .ensures) (c .before .before .child .ensures) (omega arith) (omega arith) (omega arith)
+lambda-needs-returns t c = lambda-reaches (c .before .before .before .before .before .before .before .before .before .before .before .before .before .before .before .before .before .lambda-view .ensures) (c .before .before .before .before .before .before .before .before .before .before .before .before .before .before .word .ensures) (c .before .before .before .before .before .before .before .before .before .before .capture-needs .ensures .1) (c .before .before .before .before .before .before .child-sexp .ensures) (c .before .before .child .ensures) (omega arith) (omega arith) (omega arith)
 
 let-needs-times-requires : (t : ℕ) → let-needs-lts.Need-times-requires (let-needs-calls t) (let-needs-at t) let-needs.Post
 let-needs-times-requires t c κs = (omega arith, (c .before .before .before .before .before .before .before .before .before .before .pre .1 .0, c .before .before .before .before .before .let-view .ensures .within, omega arith))
@@ -212,7 +212,7 @@ member-needs-returns-2 : (t : ℕ) → member-needs-lts.Need-returns-2 (member-n
 member-needs-returns-2 t c = rw (c .before .before .before .before .if1 .left) (lists-reaches (c .before .before .body-needs .ensures))
 
 abbrev times-Inv-loop : times-lts.InvT-loop
-times-Inv-loop a given s binding count needs₀ from i₀ needs r i = (r .end ≤ length s) × (r .count ≤ length needs₀) × (length needs ≡ length needs₀) × Goes (member-part binding) (member-words binding) a given s (from .end) count needs₀ (from .count) i needs r
+times-Inv-loop a given s binding count needs₀ from i₀ needs r i = (r .end ≤ length s) × (r .count ≤ length needs₀) × (length needs ≡ length needs₀) × ListsSoFar (member-part binding) (member-words binding) a given s (from .end) count needs₀ (from .count) i needs r
 
 abbrev times-μ-loop : times-lts.MeasureT-loop
 times-μ-loop a given s binding count needs₀ from i₀ needs r i = count - i

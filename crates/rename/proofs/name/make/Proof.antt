@@ -2,7 +2,7 @@
 use mathlib.Core.Path.{sym}
 use borrow.Author.Needs.{needs}
 use lib.Seq.{length-take-le}
-use Rattle.names.proofs.Answers.{answer-len}
+use Rattle.names.proofs.CallAnswers.{answer-len}
 use Rattle.rename.proofs.name.make.Statement.{statement}
 use Rattle.rename.proofs.name.make.Tie as tie
 

@@ -6,7 +6,7 @@ use Prim.Native.Nat.{_+_, _*_, _-_, _≤_}
 use lib.ListN.{length}
 use borrow.Author.Needs.{needs}
 use Rattle.names.proofs.Parts.{back}
-use Rattle.walk.specs.Inventing.{Roomy, InventsSexp}
+use Rattle.walk.specs.DrawnMaps.{Roomy, InventsSexp}
 use Rattle.walk.specs.declared.Invented.{Invented}
 use Rattle.walk.specs.declared.Invented.the-variants.{Drawn}
 use Rattle.walk.proofs.InventSexps.{roomy-part, moved, invents-part}

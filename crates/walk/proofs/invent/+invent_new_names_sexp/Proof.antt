@@ -14,7 +14,7 @@ use Rattle.records.specs.Records.{Sexp}
 use Rattle.records.specs.Valid.{cons-depth}
 use Rattle.records.specs.Views.{SeesSexp}
 use Rattle.records.specs.declared.SexpView.the-variants.{Pair, Atom}
-use Rattle.walk.specs.Inventing.{Roomy, Drawable, InventsFrom, InventsSexp}
+use Rattle.walk.specs.DrawnMaps.{Roomy, Drawable, InventsFrom, InventsSexp}
 use Rattle.walk.specs.declared.Growth.{Growth}
 use Rattle.walk.specs.declared.Invented.{Invented}
 use Rattle.walk.specs.declared.Invented.the-variants.{Drawn}

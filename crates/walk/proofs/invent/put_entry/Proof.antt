@@ -7,7 +7,7 @@ use Rattle.names.specs.Names.{name-width}
 use Rattle.names.proofs.Fields.{name-field-length}
 use Rattle.names.proofs.Frames.{movable-up}
 use Rattle.names.proofs.Parts.{part-length}
-use Rattle.walk.specs.Inventing.{between}
+use Rattle.walk.specs.DrawnMaps.{between}
 use Rattle.walk.proofs.MapLaws.{entry-length, entry-written}
 use Rattle.walk.proofs.invent.put_entry.Statement.{statement}
 use Rattle.walk.proofs.invent.put_entry.Tie as tie

@@ -7,7 +7,7 @@ use types.Run.{miss}
 use Rattle.records.specs.Views.{SeesSexp}
 use Rattle.records.specs.declared.SexpView.the-variants.{Atom}
 use Rattle.walk.specs.Plans.{IsAtom}
-use Rattle.walk.proofs.Onlys.{not-atom, the-atom}
+use Rattle.walk.proofs.ProperLists.{not-atom, the-atom}
 use Rattle.walk.proofs.plans.is_atom.Statement.{statement}
 use Rattle.walk.proofs.plans.is_atom.Tie as tie
 

@@ -4,7 +4,7 @@ use native.Mathlib.Omega.{arith}
 use mathlib.Core.Logic.{inl, inr}
 use Rattle.records.specs.Views.{SeesSexp}
 use Rattle.records.specs.declared.SexpView.the-variants.{Integer}
-use Rattle.walk.proofs.Onlys.{nil-nilp, pair-nilp, number-nilp, text-nilp, atom-nilp, no-nilp}
+use Rattle.walk.proofs.ProperLists.{nil-nilp, pair-nilp, number-nilp, text-nilp, atom-nilp, no-nilp}
 use Rattle.walk.proofs.plans.nilp.Statement.{statement}
 use Rattle.walk.proofs.plans.nilp.Tie as tie
 

@@ -5,7 +5,7 @@ use mathlib.Core.List.{[], _∷_}
 use types.Run.{miss}
 use Rattle.records.specs.Views.{SeesSexp}
 use Rattle.records.specs.declared.SexpView.the-variants.{Pair}
-use Rattle.walk.proofs.Onlys.{onlys-left, onlys-one, onlys-none}
+use Rattle.walk.proofs.ProperLists.{onlys-left, onlys-one, onlys-none}
 use Rattle.walk.proofs.plans.only.Statement.{statement}
 use Rattle.walk.proofs.plans.only.Tie as tie
 

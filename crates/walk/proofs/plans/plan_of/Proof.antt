@@ -6,7 +6,7 @@ use Rattle.records.specs.Views.{SeesSexp}
 use Rattle.records.specs.declared.SexpView.the-variants.{Pair}
 use Rattle.walk.specs.declared.Quasi.the-variants.{Ignored, Outside, Inside}
 use Rattle.walk.proofs.Views.{NoPair}
-use Rattle.walk.proofs.Onlys.{head-at, left-inside, left-outside, left-ignored, pair-plans}
+use Rattle.walk.proofs.ProperLists.{head-at, left-inside, left-outside, left-ignored, pair-plans}
 use Rattle.walk.proofs.plans.plan_of.Statement.{statement}
 use Rattle.walk.proofs.plans.plan_of.Tie as tie
 

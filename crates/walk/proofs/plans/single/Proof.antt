@@ -1,6 +1,6 @@
 -- `crate::plans::single` meets its contract. Assumes nothing.
 use borrow.Author.Needs.{needs}
-use Rattle.walk.proofs.Onlys.{singles-none, singles-one}
+use Rattle.walk.proofs.ProperLists.{singles-none, singles-one}
 use Rattle.walk.proofs.plans.single.Statement.{statement}
 use Rattle.walk.proofs.plans.single.Tie as tie
 

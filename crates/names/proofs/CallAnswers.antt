@@ -5,7 +5,7 @@ use native.Mathlib.Omega.{arith}
 use Prim.Native.Nat.{ℕ, _+_, _≤_, _<_}
 use borrow.Author.Tests.{le-leb, lt-leb}
 use lib.ListN.{length, drop, length-append}
-use Rattle.names.specs.Answers.{accepted-answer, delivered, max-counter, name-call, refused-answer, written}
+use Rattle.names.specs.CallAnswer.{accepted-answer, delivered, max-counter, name-call, refused-answer, written}
 use Rattle.names.specs.Names.{Bytes, gensym, name-limit}
 use Rattle.names.specs.Refusals.{placeless}
 use Rattle.names.specs.declared.Answer.{Answer}

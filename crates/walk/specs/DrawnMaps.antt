@@ -8,7 +8,7 @@ use Rattle.names.specs.Maps.{NameMap}
 use Rattle.names.specs.Names.{Bytes, name-width, name-limit, name-field}
 use Rattle.names.specs.declared.Refusal.{Refusal}
 use Rattle.names.specs.Segments.{At, SameOutside}
-use Rattle.records.specs.Answer.{gives, refuses}
+use Rattle.records.specs.StepAnswer.{gives, refuses}
 use Rattle.records.specs.Records.{head-width, Loc, Sexp, SA, sexp-bytes}
 use Rattle.records.specs.Valid.{SexpFields, cons-depth}
 use Rattle.walk.specs.Arena.{MapAt, outcome}

@@ -1,4 +1,4 @@
--- `ordering::needs::binder_needs` meets its contract. Assumes nothing.
+-- `ordering::needs::capture_needs` meets its contract. Assumes nothing.
 use mathlib.Core.Path.{sym, _∙_}
 use native.Mathlib.Omega.{arith}
 use borrow.Author.Needs.{needs}
@@ -7,8 +7,8 @@ use Rattle.names.specs.Names.{ascii}
 use Rattle.ordering.proofs.Bodies.{captured-none, captured-some}
 use Rattle.ordering.proofs.NeedLaws.{names-none, names-then}
 use Rattle.names.proofs.Parts.{into}
-use Rattle.ordering.proofs.needs.binder_needs.Statement.{statement}
-use Rattle.ordering.proofs.needs.binder_needs.Tie as tie
+use Rattle.ordering.proofs.needs.capture_needs.Statement.{statement}
+use Rattle.ordering.proofs.needs.capture_needs.Tie as tie
 
 returns : tie.Need-returns
 returns c = (omega arith, λ t w k. rw (captured-none t (sym (c .before .truthy .ensures t w (into k)) ∙ not-true _ (c .if1 .taken))) (names-none (omega arith)))
@@ -17,5 +17,5 @@ returns-2 : tie.Need-returns-2
 unfolding ascii
 returns-2 c = (omega arith, λ t w k. rw (captured-some t (sym (c .before .before .before .before .before .before .before .before .before .before .truthy .ensures t w (into k)) ∙ not-false _ (c .before .before .before .before .before .before .before .before .before .if1 .left))) (names-then (omega arith) (c .before .before .before .before .before .before .word .ensures) (c .before .before .child-sexp .ensures .lists t w k)))
 
-pub binder-needs-spec : {M : Type 1} → statement M
-binder-needs-spec = tie.close (tie.spec (λ c. search needs) (λ c. search needs) (λ c. search needs) (λ c κs. search needs) returns (λ c. search needs) (λ c κs. search needs) (λ c κs. search needs) (λ c. search needs) returns-2)
+pub capture-needs-spec : {M : Type 1} → statement M
+capture-needs-spec = tie.close (tie.spec (λ c. search needs) (λ c. search needs) (λ c. search needs) (λ c κs. search needs) returns (λ c. search needs) (λ c κs. search needs) (λ c κs. search needs) (λ c. search needs) returns-2)

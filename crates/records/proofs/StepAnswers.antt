@@ -6,7 +6,7 @@ use lib.ListN.{length}
 use Rattle.names.specs.Names.{Bytes}
 use Rattle.names.specs.declared.Refusal.{Refusal}
 use Rattle.names.specs.Segments.{At}
-use Rattle.records.specs.Answer.{Outcome, gives, refuses, Gives, gave, refused}
+use Rattle.records.specs.StepAnswer.{Outcome, gives, refuses, Gives, gave, refused}
 use Rattle.records.specs.declared.Step.{Step}
 use Rattle.records.specs.declared.Step.the-variants.{Done, Refused}
 use Rattle.names.proofs.Parts.{back, at-back}

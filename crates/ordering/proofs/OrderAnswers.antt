@@ -7,7 +7,7 @@ use Prim.Native.Nat.{ℕ}
 use native.Mathlib.Omega.{arith}
 use lib.Dec.{leb}
 use lib.ListN.{length}
-use Rattle.names.specs.Answers.{Result, refused-answer}
+use Rattle.names.specs.CallAnswer.{Result, refused-answer}
 use Rattle.names.specs.Names.{Bytes}
 use Rattle.names.specs.Refusals.{place-at, placeless}
 use Rattle.names.specs.declared.Refusal.{Refusal}
@@ -15,7 +15,7 @@ use Rattle.records.specs.Opened.{Opened, opened, closed, open-input}
 use Rattle.records.specs.Read.{assign-of}
 use Rattle.records.specs.Records.{loc-number, Body, Binding}
 use Rattle.ordering.specs.Lawful.{_is-in_, OfSome, Stuck}
-use Rattle.ordering.specs.Toposort.{Outcome, ordered, deadlock, rounds}
+use Rattle.ordering.specs.Toposort.{Toposorted, ordered, deadlock, rounds}
 use Rattle.ordering.specs.OrderCall.{Rounds, bindings-of, let-loc, stuck-answer, order-answer, order-of, order-call}
 use Rattle.ordering.specs.Words.{items, toposort-assign-bindings}
 use Rattle.ordering.proofs.Rounds.{rounds-few, rounds-some}
@@ -30,7 +30,7 @@ module _ (c : ℕ) (buffer : Bytes) where
   unfolding order-of stuck-answer order-answer toposort-assign-bindings
   order-rounds a = go (leb (length (bindings-of a)) (length buffer))
     where
-      go₂ : (o : Outcome) → toposort-assign-bindings (bindings-of a) ≡ o → Rounds (elim o as (λ _. Result) [ deadlock is ↦ stuck-answer c (place-at (loc-number (let-loc a))) buffer is | ordered is ↦ order-answer c buffer (rounds (items (bindings-of a))) is ])
+      go₂ : (o : Toposorted) → toposort-assign-bindings (bindings-of a) ≡ o → Rounds (elim o as (λ _. Result) [ deadlock is ↦ stuck-answer c (place-at (loc-number (let-loc a))) buffer is | ordered is ↦ order-answer c buffer (rounds (items (bindings-of a))) is ])
       go₂ (deadlock is) e = record { few = omega arith; some = λ q h. absurd (omega arith); none = λ _. refl }
       go₂ (ordered is) e =
           let l = sound-length (items (bindings-of a)) is e in
@@ -60,7 +60,7 @@ pub order-call-counter : (F work c : ℕ) (input buffer : Bytes) → order-call 
 unfolding order-call order-of refused-answer stuck-answer order-answer
 order-call-counter F work c input buffer = go (open-input assign-of F work c input)
   where
-    go₃ : (a : Body) (o : Outcome) → (elim o as (λ _. Result) [ deadlock is ↦ stuck-answer c (place-at (loc-number (let-loc a))) buffer is | ordered is ↦ order-answer c buffer (rounds (items (bindings-of a))) is ]) .0 .counter ≡ c
+    go₃ : (a : Body) (o : Toposorted) → (elim o as (λ _. Result) [ deadlock is ↦ stuck-answer c (place-at (loc-number (let-loc a))) buffer is | ordered is ↦ order-answer c buffer (rounds (items (bindings-of a))) is ]) .0 .counter ≡ c
     go₃ a (deadlock is) = refl
     go₃ a (ordered is) = refl
 

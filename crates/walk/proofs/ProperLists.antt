@@ -22,7 +22,7 @@ use Rattle.records.specs.declared.SexpView.{SexpView}
 use Rattle.records.specs.declared.SexpView.the-variants.{Nil, Pair, Integer, Text, Atom, Unknown}
 use Rattle.records.proofs.AnySexp.{bytes-are, unseen}
 use Rattle.records.proofs.Views.{first-of, rest-of}
-use Rattle.walk.specs.Plans.{substitution, OnlyAt, only-none, only-one, Onlys, HeadAt, IsAtom, SingleAt, single-none, single-one, Singles, Planned, keeps, renames, Plans, PlansPair}
+use Rattle.walk.specs.Plans.{substitution, OnlyAt, only-none, only-one, SeesOnly, HeadAt, IsAtom, OnlyOfTailAt, single-none, single-one, SeesOnlyOfTail, Planned, keeps, renames, Plans, PlansPair}
 use Rattle.walk.specs.RenameInCons.{rename-in-cons}
 use Rattle.walk.specs.declared.Plan.{Plan}
 use Rattle.walk.specs.declared.Plan.the-variants.{Kept, ByMap}
@@ -94,7 +94,7 @@ module _ {s : Bytes} (t : Sexp) (w : SexpFields t) (a : At s 0 (sexp-bytes t)) w
   no-nilp x = absurd (unseen (x .sees t w a))
 
 -- a proper list of one element
-pub onlys-left : {s : Bytes} {v : SexpView} → NoPair v → SeesSexp s v → Onlys s 0
+pub onlys-left : {s : Bytes} {v : SexpView} → NoPair v → SeesSexp s v → SeesOnly s 0
 onlys-left q x = record { within = omega arith; onlys = λ t w a. only-none refl (left q (x .sees t w a) .no-list) }
 
 module _ {s : Bytes} {p : ℕ} (x : SeesSexp s (Pair p)) where
@@ -115,13 +115,13 @@ module _ {s : Bytes} {p : ℕ} (x : SeesSexp s (Pair p)) where
         let i = size .skips h (w .1) (into (first-of k)) in
         end u (w .2) (into (at-place (p + n) (omega (arith, i)) (first-of (rest-of k))))
 
-    pub onlys-one : r ≡ true → Onlys s p
+    pub onlys-one : r ≡ true → SeesOnly s p
     onlys-one e = record { within = x .places .1; onlys = λ t w a. go w a (x .sees t w a) }
       where
         go : {t : Sexp} → SexpFields t → At s 0 (sexp-bytes t) → SexpAt s (Pair p) t → OnlyAt t p
         go w a (pair-at {l = l} {h = h} {t = u} k q) = only-one l h u refl (sym (ends w (pair-at k q)) ∙ e) (head-at .is l h u w a)
 
-    pub onlys-none : r ≡ false → Onlys s 0
+    pub onlys-none : r ≡ false → SeesOnly s 0
     unfolding only
     onlys-none e = record { within = omega arith; onlys = λ t w a. go w (x .sees t w a) }
       where
@@ -129,7 +129,7 @@ module _ {s : Bytes} {p : ℕ} (x : SeesSexp s (Pair p)) where
         go w (pair-at k q) = only-none refl (rw (sym (ends w (pair-at k q)) ∙ e, only))
 
 -- the element of a tail
-module _ {s : Bytes} {n k x : ℕ} (hd : HeadAt s n) (size : Skips fields-part (part s n (length s - n)) k) (o : Onlys (part s (n + k) (length s - (n + k))) x) where
+module _ {s : Bytes} {n k x : ℕ} (hd : HeadAt s n) (size : Skips fields-part (part s n (length s - n)) k) (o : SeesOnly (part s (n + k) (length s - (n + k))) x) where
   tail-only : (l : Loc) (h u : Sexp) → SexpFields (SC l h u) → At s 0 (sexp-bytes (SC l h u)) → OnlyAt u x × (n + k ≡ head-width + length (sexp-bytes h))
   tail-only l h u w a =
       let v = cons l h u w a in
@@ -137,17 +137,17 @@ module _ {s : Bytes} {n k x : ℕ} (hd : HeadAt s n) (size : Skips fields-part (
       let i = size .skips h (v .fields-h) (into (at-place n (sym e) (v .left))) in
       (o .onlys u (v .fields-u) (into (at-place (n + k) (omega (arith, i, e)) (v .right))), omega (arith, i, e))
 
-  pub singles-none : x ≡ 0 → Singles s 0
+  pub singles-none : x ≡ 0 → SeesOnlyOfTail s 0
   singles-none z = record { singles = λ l h u w a. go h u (tail-only l h u w a .0) }
     where
-      go : (h u : Sexp) → OnlyAt u x → SingleAt h u 0
+      go : (h u : Sexp) → OnlyAt u x → OnlyOfTailAt h u 0
       go h u (only-none e q) = single-none refl q
       go h u (only-one y c d e q r) = absurd (omega arith)
 
-  pub singles-one : (x ≡ 0 → ⊥) → Singles s (n + k + x)
+  pub singles-one : (x ≡ 0 → ⊥) → SeesOnlyOfTail s (n + k + x)
   singles-one z = record { singles = λ l h u w a. go h u (tail-only l h u w a) }
     where
-      go : (h u : Sexp) → OnlyAt u x × (n + k ≡ head-width + length (sexp-bytes h)) → SingleAt h u (n + k + x)
+      go : (h u : Sexp) → OnlyAt u x × (n + k ≡ head-width + length (sexp-bytes h)) → OnlyOfTailAt h u (n + k + x)
       go h u (only-none r q, f) = absurd (z r)
       go h u (only-one y c d g q r, f) = single-one y c d g q (omega arith)
 
