@@ -7,7 +7,7 @@ use crate::compiler::gensym::{gensym, ARGNAME_CTR};
 use crate::compiler::rename::{rename_args_compileform, rename_args_helperform, rename_children_compileform};
 use crate::compiler::srcloc::Srcloc;
 use crate::model::{order_cost, Walk};
-use crate::ordering::{order, Outcome};
+use crate::ordering::{self, Toposorted};
 use crate::reader::{self, Refusal};
 use crate::records::{Bytes, Form, Helper, Let, Record};
 use std::panic::{catch_unwind, AssertUnwindSafe};
@@ -149,10 +149,10 @@ fn order_answer(case: &Case, assign: &Let) -> Checked<Answer> {
     if assign.bindings.len() > case.buffer {
         return Ok(refused(case, Refusal { number: 8, place: 0 }));
     }
-    let modelled = order(&assign.bindings);
+    let modelled = ordering::toposort_assign_bindings(&assign.bindings);
     match (rust_order(assign)?, modelled) {
-        (Ok(indices), Outcome::Ordered(same)) if indices == same => Ok(delivered(case, as_bytes(&indices), case.counter)),
-        (Err(refusal), Outcome::Deadlock(stuck)) => Ok(Answer { output: as_bytes(&stuck), ..refused(case, refusal) }),
+        (Ok(indices), Toposorted::Ordered(same)) if indices == same => Ok(delivered(case, as_bytes(&indices), case.counter)),
+        (Err(refusal), Toposorted::Deadlock(stuck)) => Ok(Answer { output: as_bytes(&stuck), ..refused(case, refusal) }),
         (rust, modelled) => Err(format!("the Rust orders {rust:?}, the model {modelled:?}")),
     }
 }
@@ -182,14 +182,14 @@ fn rename_answer<T: Record + PartialEq>(
 
 pub fn model_form(call: Call, form: &Form, walk: &mut Walk) -> Renamed<Form> {
     let result = match call {
-        Call::Children => walk.children(form)?,
-        _ => walk.whole(form)?,
+        Call::Children => walk.rename_children_compileform(form)?,
+        _ => walk.rename_args_compileform(form)?,
     };
     Ok((result, walk.counter))
 }
 
 pub fn model_helper(helper: &Helper, walk: &mut Walk) -> Renamed<Helper> {
-    Ok((walk.helper(helper)?, walk.counter))
+    Ok((walk.rename_args_helperform(helper)?, walk.counter))
 }
 
 /// The walk of an input that can be read, with no F; a fresh one for any other.

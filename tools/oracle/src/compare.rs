@@ -4,7 +4,7 @@ use crate::answers::{self, Call, Checked, Opened, Renamed};
 use crate::codec;
 use crate::generate::Maker;
 use crate::model::Walk;
-use crate::ordering::{order, Outcome};
+use crate::ordering::{self, Toposorted};
 use crate::print;
 use crate::records::Record;
 use crate::sample;
@@ -38,9 +38,9 @@ fn one(call: Call, input: &[u8], counter: u64, tally: &mut Tally) -> Checked<()>
     match answers::read(call, input) {
         Err(_) => tally.refused += 1,
         Ok(Opened::Assign(assign)) => {
-            let ordered = match order(&assign.bindings) {
-                Outcome::Ordered(indices) => Ok((indices, 0)),
-                Outcome::Deadlock(_) => answers::deadlock(assign.loc),
+            let ordered = match ordering::toposort_assign_bindings(&assign.bindings) {
+                Toposorted::Ordered(indices) => Ok((indices, 0)),
+                Toposorted::Deadlock(_) => answers::deadlock(assign.loc),
             };
             let rust = answers::rust_order(&assign)?;
             same(rust.map(|indices| (indices, 0)), ordered, |indices| format!("{indices:?}"), tally)?;

@@ -1,7 +1,7 @@
 //! An independent model of the walk, with what the Rust does not have: refusal 6 (a made name passes 255 bytes) and refusal 7 (a
 //! running sum, or a finished record, passes F). Each function is one rule; `held` is what its step holds for its answer.
 
-use crate::ordering::{order, turns, Outcome};
+use crate::ordering::{toposort_assign_bindings, turns, Toposorted};
 use crate::reader::Refusal;
 use crate::records::{Binding, Body, Bytes, Form, Head, Helper, Hint, Kind, Lambda, Let, Pattern, Record, Sexp};
 use std::collections::HashMap;
@@ -77,15 +77,15 @@ impl Walk {
     }
 
     /// Invent: the new names go into the map; the last of a repeated name stays.
-    fn invent(&mut self, sexp: &Sexp, map: &mut Map) -> Out<()> {
+    fn invent_new_names_sexp(&mut self, sexp: &Sexp, map: &mut Map) -> Out<()> {
         match sexp {
             Sexp::SA(_, name) if name != b"@" => {
                 let made = self.gensym(name)?;
                 map.insert(name.clone(), made);
             }
             Sexp::SC(_, head, tail) => {
-                self.invent(head, map)?;
-                self.invent(tail, map)?;
+                self.invent_new_names_sexp(head, map)?;
+                self.invent_new_names_sexp(tail, map)?;
             }
             _ => {}
         }
@@ -93,24 +93,24 @@ impl Walk {
     }
 
     /// Substitute; `qq` says whether a `qq` list is looked into.
-    fn substitute(&mut self, map: &Map, sexp: &Sexp, qq: bool) -> Out<Sexp> {
+    fn rename_in_cons(&mut self, map: &Map, sexp: &Sexp, qq: bool) -> Out<Sexp> {
         match sexp {
-            Sexp::SA(_, _) => self.finished(renamed(map, sexp)),
+            Sexp::SA(_, _) => self.finished(rename_atom(map, sexp)),
             Sexp::SC(loc, head, tail) => match &**head {
                 Sexp::SA(_, word) if word == b"q" => Ok(sexp.clone()),
-                Sexp::SA(_, word) if word == b"quote" => match elements(tail).as_deref() {
-                    Some([element]) => self.finished(quoted(*loc, head, element)),
+                Sexp::SA(_, word) if word == b"quote" => match proper_list(tail).as_deref() {
+                    Some([element]) => self.finished(requoted(*loc, head, element)),
                     _ => Ok(sexp.clone()),
                 },
-                Sexp::SA(_, word) if word == b"qq" && qq => match elements(tail).as_deref() {
-                    Some([element]) => self.substitute_qq(map, element),
+                Sexp::SA(_, word) if word == b"qq" && qq => match proper_list(tail).as_deref() {
+                    Some([element]) => self.rename_in_qq(map, element),
                     _ => Ok(sexp.clone()),
                 },
                 _ => {
                     let mut held = 0;
-                    let head = self.substitute(map, head, qq)?;
+                    let head = self.rename_in_cons(map, head, qq)?;
                     let head = self.hold(&mut held, head)?;
-                    let tail = self.substitute(map, tail, qq)?;
+                    let tail = self.rename_in_cons(map, tail, qq)?;
                     let tail = self.hold(&mut held, tail)?;
                     self.finished(Sexp::SC(*loc, Rc::new(head), Rc::new(tail)))
                 }
@@ -120,29 +120,29 @@ impl Walk {
     }
 
     /// Inside `qq`: only what stands in an `unquote` is substituted.
-    fn substitute_qq(&mut self, map: &Map, sexp: &Sexp) -> Out<Sexp> {
-        if let Some([Sexp::SA(_, word), element]) = elements(sexp).as_deref() {
+    fn rename_in_qq(&mut self, map: &Map, sexp: &Sexp) -> Out<Sexp> {
+        if let Some([Sexp::SA(_, word), element]) = proper_list(sexp).as_deref() {
             if word == b"unquote" {
-                return self.substitute(map, element, true);
+                return self.rename_in_cons(map, element, true);
             }
         }
         let Sexp::SC(loc, head, tail) = sexp else {
             return Ok(sexp.clone());
         };
         let mut held = 0;
-        let head = self.substitute_qq(map, head)?;
+        let head = self.rename_in_qq(map, head)?;
         let head = self.hold(&mut held, head)?;
-        let tail = self.substitute_qq(map, tail)?;
+        let tail = self.rename_in_qq(map, tail)?;
         let tail = self.hold(&mut held, tail)?;
         self.finished(Sexp::SC(*loc, Rc::new(head), Rc::new(tail)))
     }
 
     /// In-body.
-    fn in_body(&mut self, map: &Map, body: &Body) -> Out<Body> {
+    fn rename_in_bodyform(&mut self, map: &Map, body: &Body) -> Out<Body> {
         let result = match body {
             Body::BL(data) => self.in_let(map, data)?,
-            Body::BQ(sexp) => Body::BQ(renamed(map, sexp)),
-            Body::BV(sexp) => Body::BV(renamed(map, sexp)),
+            Body::BQ(sexp) => Body::BQ(rename_atom(map, sexp)),
+            Body::BV(sexp) => Body::BV(rename_atom(map, sexp)),
             Body::BC(loc, elements, tail) => self.in_call(map, *loc, elements, tail)?,
             Body::BM(_, _) => body.clone(),
             Body::BF(data) => self.in_lambda(map, data)?,
@@ -150,8 +150,8 @@ impl Walk {
         self.finished(result)
     }
 
-    fn in_body_held(&mut self, held: &mut usize, map: &Map, body: &Body) -> Out<Body> {
-        let result = self.in_body(map, body)?;
+    fn in_bodyform_held(&mut self, held: &mut usize, map: &Map, body: &Body) -> Out<Body> {
+        let result = self.rename_in_bodyform(map, body)?;
         self.hold(held, result)
     }
 
@@ -159,9 +159,9 @@ impl Walk {
         let mut held = 0;
         let mut result = data.clone();
         for binding in &mut result.bindings {
-            binding.body = self.in_body_held(&mut held, map, &binding.body)?;
+            binding.body = self.in_bodyform_held(&mut held, map, &binding.body)?;
         }
-        result.body = self.in_body_held(&mut held, map, &data.body)?;
+        result.body = self.in_bodyform_held(&mut held, map, &data.body)?;
         Ok(Body::BL(Box::new(result)))
     }
 
@@ -169,7 +169,7 @@ impl Walk {
         let mut held = 0;
         let mut results = Vec::new();
         for (index, element) in elements.iter().enumerate() {
-            let result = self.in_body_held(&mut held, map, element)?;
+            let result = self.in_bodyform_held(&mut held, map, element)?;
             results.push(match index {
                 0 => {
                     self.release(&mut held, &result);
@@ -179,7 +179,7 @@ impl Walk {
             });
         }
         let tail = match tail {
-            Some(tail) => Some(Box::new(self.in_body_held(&mut held, map, tail)?)),
+            Some(tail) => Some(Box::new(self.in_bodyform_held(&mut held, map, tail)?)),
             None => None,
         };
         Ok(Body::BC(loc, results, tail))
@@ -187,48 +187,48 @@ impl Walk {
 
     fn in_lambda(&mut self, map: &Map, data: &Lambda) -> Out<Body> {
         let mut held = 0;
-        let captures = self.in_body_held(&mut held, map, &data.captures)?;
-        let capture_args = self.substitute(map, &data.capture_args, false)?;
+        let captures = self.in_bodyform_held(&mut held, map, &data.captures)?;
+        let capture_args = self.rename_in_cons(map, &data.capture_args, false)?;
         let capture_args = self.hold(&mut held, capture_args)?;
-        let body = self.own_then_in(&mut held, map, &data.body)?;
+        let body = self.args_then_in(&mut held, map, &data.body)?;
         Ok(Body::BF(Box::new(Lambda { captures, capture_args, body, ..data.clone() })))
     }
 
     /// Own, and In-body of what it gives.
-    fn own_then_in(&mut self, held: &mut usize, map: &Map, body: &Body) -> Out<Body> {
-        let own = self.own_held(held, body)?;
+    fn args_then_in(&mut self, held: &mut usize, map: &Map, body: &Body) -> Out<Body> {
+        let own = self.args_bodyform_held(held, body)?;
         self.release(held, &own);
-        self.in_body_held(held, map, &own)
+        self.in_bodyform_held(held, map, &own)
     }
 
-    fn own_held(&mut self, held: &mut usize, body: &Body) -> Out<Body> {
-        let result = self.own(body)?;
+    fn args_bodyform_held(&mut self, held: &mut usize, body: &Body) -> Out<Body> {
+        let result = self.rename_args_bodyform(body)?;
         self.hold(held, result)
     }
 
     /// Own.
-    fn own(&mut self, body: &Body) -> Out<Body> {
+    fn rename_args_bodyform(&mut self, body: &Body) -> Out<Body> {
         let result = match body {
             Body::BL(data) => match data.kind {
-                Kind::Sequential => self.own_sequential(data)?,
-                Kind::Parallel => self.own_parallel(data)?,
-                Kind::Assign => self.own_assign(data)?,
+                Kind::Sequential => self.args_sequential(data)?,
+                Kind::Parallel => self.args_parallel(data)?,
+                Kind::Assign => self.args_assign(data)?,
             },
-            Body::BC(loc, elements, tail) => self.own_call(*loc, elements, tail)?,
-            Body::BF(data) => self.own_lambda(data)?,
+            Body::BC(loc, elements, tail) => self.args_call(*loc, elements, tail)?,
+            Body::BF(data) => self.args_lambda(data)?,
             Body::BQ(_) | Body::BV(_) | Body::BM(_, _) => body.clone(),
         };
         self.finished(result)
     }
 
-    fn own_sequential(&mut self, data: &Let) -> Out<Body> {
+    fn args_sequential(&mut self, data: &Let) -> Out<Body> {
         let mut held = 0;
-        let nested = self.hold(&mut held, desugared(&data.bindings, &data.body))?;
+        let nested = self.hold(&mut held, desugar_sequential_let_bindings(&data.bindings, &data.body))?;
         self.release(&mut held, &nested);
-        self.own_held(&mut held, &nested)
+        self.args_bodyform_held(&mut held, &nested)
     }
 
-    fn own_parallel(&mut self, data: &Let) -> Out<Body> {
+    fn args_parallel(&mut self, data: &Let) -> Out<Body> {
         let mut held = 0;
         let mut result = data.clone();
         let mut joined = Map::new();
@@ -241,125 +241,123 @@ impl Walk {
                     Pattern::Name(made)
                 }
                 Pattern::Complex(sexp) => {
-                    self.invent(sexp, &mut own_map)?;
-                    let sexp = self.substitute(&own_map, sexp, false)?;
+                    self.invent_new_names_sexp(sexp, &mut own_map)?;
+                    let sexp = self.rename_in_cons(&own_map, sexp, false)?;
                     Pattern::Complex(self.hold(&mut held, sexp)?)
                 }
             };
             joined.extend(own_map);
         }
         for binding in &mut result.bindings {
-            binding.body = self.own_held(&mut held, &binding.body)?;
+            binding.body = self.args_bodyform_held(&mut held, &binding.body)?;
         }
-        result.body = self.own_then_in(&mut held, &joined, &data.body)?;
+        result.body = self.args_then_in(&mut held, &joined, &data.body)?;
         Ok(Body::BL(Box::new(result)))
     }
 
-    fn own_assign(&mut self, data: &Let) -> Out<Body> {
+    fn args_assign(&mut self, data: &Let) -> Out<Body> {
         self.cost = self.cost.saturating_add(order_cost(&data.bindings));
-        let order = match order(&data.bindings) {
-            Outcome::Ordered(order) => order,
-            Outcome::Deadlock(_) => return refuse(5, data.loc.into()),
+        let order = match toposort_assign_bindings(&data.bindings) {
+            Toposorted::Ordered(order) => order,
+            Toposorted::Deadlock(_) => return refuse(5, data.loc.into()),
         };
         let mut held = 0;
         let mut map = Map::new();
         let mut written = Vec::new();
         for index in order {
-            written.push(self.assign_binding(&mut held, &mut map, &data.bindings[index])?);
+            written.push(self.rename_assign_binding(&mut held, &mut map, &data.bindings[index])?);
         }
         written.reverse();
-        let body = self.own_then_in(&mut held, &map, &data.body)?;
+        let body = self.args_then_in(&mut held, &map, &data.body)?;
         Ok(Body::BL(Box::new(Let { bindings: written, body, ..data.clone() })))
     }
 
-    fn assign_binding(&mut self, held: &mut usize, map: &mut Map, binding: &Binding) -> Out<Binding> {
+    fn rename_assign_binding(&mut self, held: &mut usize, map: &mut Map, binding: &Binding) -> Out<Binding> {
         let Pattern::Complex(sexp) = &binding.pattern else {
             return Ok(binding.clone());
         };
-        self.invent(sexp, map)?;
-        let own = self.own_held(held, &binding.body)?;
-        let sexp = self.substitute(map, sexp, false)?;
+        self.invent_new_names_sexp(sexp, map)?;
+        let own = self.args_bodyform_held(held, &binding.body)?;
+        let sexp = self.rename_in_cons(map, sexp, false)?;
         let pattern = Pattern::Complex(self.hold(held, sexp)?);
         self.release(held, &own);
-        let body = self.in_body_held(held, map, &own)?;
+        let body = self.in_bodyform_held(held, map, &own)?;
         Ok(Binding { pattern, body, ..binding.clone() })
     }
 
-    fn own_call(&mut self, loc: u32, elements: &[Body], tail: &Option<Box<Body>>) -> Out<Body> {
+    fn args_call(&mut self, loc: u32, elements: &[Body], tail: &Option<Box<Body>>) -> Out<Body> {
         let mut held = 0;
         let mut results = Vec::new();
         for element in elements {
-            results.push(self.own_held(&mut held, element)?);
+            results.push(self.args_bodyform_held(&mut held, element)?);
         }
         let tail = match tail {
-            Some(tail) => Some(Box::new(self.own_held(&mut held, tail)?)),
+            Some(tail) => Some(Box::new(self.args_bodyform_held(&mut held, tail)?)),
             None => None,
         };
         Ok(Body::BC(loc, results, tail))
     }
 
-    fn own_lambda(&mut self, data: &Lambda) -> Out<Body> {
+    fn args_lambda(&mut self, data: &Lambda) -> Out<Body> {
         let mut held = 0;
-        let (args, map) = self.own_args(&mut held, &data.args, false)?;
-        let body = self.own_then_in(&mut held, &map, &data.body)?;
+        let (args, map) = self.new_args(&mut held, &data.args, false)?;
+        let body = self.args_then_in(&mut held, &map, &data.body)?;
         Ok(Body::BF(Box::new(Lambda { args, body, ..data.clone() })))
     }
 
     /// Args invented and substituted, with the map for what is below them.
-    fn own_args(&mut self, held: &mut usize, args: &Sexp, qq: bool) -> Out<(Sexp, Map)> {
+    fn new_args(&mut self, held: &mut usize, args: &Sexp, qq: bool) -> Out<(Sexp, Map)> {
         let mut map = Map::new();
-        self.invent(args, &mut map)?;
-        let args = self.substitute(&map, args, qq)?;
+        self.invent_new_names_sexp(args, &mut map)?;
+        let args = self.rename_in_cons(&map, args, qq)?;
         Ok((self.hold(held, args)?, map))
     }
 
-    /// `rename_args_helperform`.
-    pub fn helper(&mut self, helper: &Helper) -> Out<Helper> {
+    pub fn rename_args_helperform(&mut self, helper: &Helper) -> Out<Helper> {
         let mut held = 0;
         let result = match helper {
-            Helper::HC(head, body) => Helper::HC(head.clone(), self.own_held(&mut held, body)?),
-            Helper::HM(head, args, form) => self.macro_helper(head, args, form)?,
+            Helper::HC(head, body) => Helper::HC(head.clone(), self.args_bodyform_held(&mut held, body)?),
+            Helper::HM(head, args, form) => self.args_macro(head, args, form)?,
             Helper::HD(head, inline, args, body) => {
-                let (args, map) = self.own_args(&mut held, args, true)?;
-                let body = self.own_then_in(&mut held, &map, body)?;
+                let (args, map) = self.new_args(&mut held, args, true)?;
+                let body = self.args_then_in(&mut held, &map, body)?;
                 Helper::HD(head.clone(), *inline, args, body)
             }
-            Helper::HN(head, helpers) => Helper::HN(head.clone(), self.helpers_held(&mut held, helpers)?),
+            Helper::HN(head, helpers) => Helper::HN(head.clone(), self.args_helpers_held(&mut held, helpers)?),
             Helper::HR(_) => helper.clone(),
         };
         self.finished(result)
     }
 
-    fn macro_helper(&mut self, head: &Head, args: &Sexp, form: &Form) -> Out<Helper> {
+    fn args_macro(&mut self, head: &Head, args: &Sexp, form: &Form) -> Out<Helper> {
         let mut held = 0;
-        let (args, map) = self.own_args(&mut held, args, true)?;
-        let own = self.whole(form)?;
+        let (args, map) = self.new_args(&mut held, args, true)?;
+        let own = self.rename_args_compileform(form)?;
         let own = self.hold(&mut held, own)?;
         self.release(&mut held, &own);
-        let form = self.in_form(&map, &own)?;
+        let form = self.rename_in_compileform(&map, &own)?;
         let form = self.hold(&mut held, form)?;
         Ok(Helper::HM(head.clone(), args, form))
     }
 
-    fn helpers_held(&mut self, held: &mut usize, helpers: &[Helper]) -> Out<Vec<Helper>> {
+    fn args_helpers_held(&mut self, held: &mut usize, helpers: &[Helper]) -> Out<Vec<Helper>> {
         let mut results = Vec::new();
         for helper in helpers {
-            let result = self.helper(helper)?;
+            let result = self.rename_args_helperform(helper)?;
             results.push(self.hold(held, result)?);
         }
         Ok(results)
     }
 
-    /// `rename_in_helperform`.
-    fn in_helper(&mut self, map: &Map, helper: &Helper) -> Out<Helper> {
+    fn rename_in_helperform(&mut self, map: &Map, helper: &Helper) -> Out<Helper> {
         let mut held = 0;
         let result = match helper {
-            Helper::HC(head, body) => Helper::HC(head.clone(), self.in_body_held(&mut held, map, body)?),
+            Helper::HC(head, body) => Helper::HC(head.clone(), self.in_bodyform_held(&mut held, map, body)?),
             Helper::HD(head, inline, args, body) => {
-                Helper::HD(head.clone(), *inline, args.clone(), self.in_body_held(&mut held, map, body)?)
+                Helper::HD(head.clone(), *inline, args.clone(), self.in_bodyform_held(&mut held, map, body)?)
             }
             Helper::HM(head, args, form) => {
-                let form = self.in_form(map, form)?;
+                let form = self.rename_in_compileform(map, form)?;
                 Helper::HM(head.clone(), args.clone(), self.hold(&mut held, form)?)
             }
             Helper::HN(_, _) | Helper::HR(_) => helper.clone(),
@@ -367,39 +365,36 @@ impl Walk {
         self.finished(result)
     }
 
-    /// `rename_in_compileform`.
-    fn in_form(&mut self, map: &Map, form: &Form) -> Out<Form> {
+    fn rename_in_compileform(&mut self, map: &Map, form: &Form) -> Out<Form> {
         let mut held = 0;
         let mut result = form.clone();
         for helper in &mut result.helpers {
-            let renamed = self.in_helper(map, helper)?;
+            let renamed = self.rename_in_helperform(map, helper)?;
             *helper = self.hold(&mut held, renamed)?;
         }
-        result.body = self.in_body_held(&mut held, map, &form.body)?;
+        result.body = self.in_bodyform_held(&mut held, map, &form.body)?;
         self.finished(result)
     }
 
-    /// `rename_args_compileform`.
-    pub fn whole(&mut self, form: &Form) -> Out<Form> {
+    pub fn rename_args_compileform(&mut self, form: &Form) -> Out<Form> {
         let mut held = 0;
-        let (args, map) = self.own_args(&mut held, &form.args, true)?;
-        let mut helpers = self.helpers_held(&mut held, &form.helpers)?;
-        let own = self.own_held(&mut held, &form.body)?;
+        let (args, map) = self.new_args(&mut held, &form.args, true)?;
+        let mut helpers = self.args_helpers_held(&mut held, &form.helpers)?;
+        let own = self.args_bodyform_held(&mut held, &form.body)?;
         for helper in &mut helpers {
             self.release(&mut held, helper);
-            let renamed = self.in_helper(&map, helper)?;
+            let renamed = self.rename_in_helperform(&map, helper)?;
             *helper = self.hold(&mut held, renamed)?;
         }
         self.release(&mut held, &own);
-        let body = self.in_body_held(&mut held, &map, &own)?;
+        let body = self.in_bodyform_held(&mut held, &map, &own)?;
         self.finished(Form { args, helpers, body, ..form.clone() })
     }
 
-    /// `rename_children_compileform`.
-    pub fn children(&mut self, form: &Form) -> Out<Form> {
+    pub fn rename_children_compileform(&mut self, form: &Form) -> Out<Form> {
         let mut held = 0;
-        let helpers = self.helpers_held(&mut held, &form.helpers)?;
-        let body = self.own_held(&mut held, &form.body)?;
+        let helpers = self.args_helpers_held(&mut held, &form.helpers)?;
+        let body = self.args_bodyform_held(&mut held, &form.body)?;
         self.finished(Form { helpers, body, ..form.clone() })
     }
 }
@@ -410,7 +405,7 @@ pub fn order_cost(bindings: &[Binding]) -> usize {
 }
 
 /// An atom by the map; anything else as it is.
-fn renamed(map: &Map, sexp: &Sexp) -> Sexp {
+fn rename_atom(map: &Map, sexp: &Sexp) -> Sexp {
     match sexp {
         Sexp::SA(loc, name) => Sexp::SA(*loc, map.get(name).unwrap_or(name).clone()),
         _ => sexp.clone(),
@@ -418,17 +413,17 @@ fn renamed(map: &Map, sexp: &Sexp) -> Sexp {
 }
 
 /// The elements of a proper list.
-fn elements(sexp: &Sexp) -> Option<Vec<&Sexp>> {
+fn proper_list(sexp: &Sexp) -> Option<Vec<&Sexp>> {
     let mut found = Vec::new();
     let mut rest = sexp;
     while let Sexp::SC(_, head, tail) = rest {
         found.push(&**head);
         rest = tail;
     }
-    is_nil(rest).then_some(found)
+    nilp(rest).then_some(found)
 }
 
-fn is_nil(sexp: &Sexp) -> bool {
+fn nilp(sexp: &Sexp) -> bool {
     match sexp {
         Sexp::SN(_) => true,
         Sexp::SC(_, _, _) => false,
@@ -438,7 +433,7 @@ fn is_nil(sexp: &Sexp) -> bool {
 }
 
 /// `(quote element)`, its inner list and closing nil at the element's location.
-fn quoted(loc: u32, head: &Rc<Sexp>, element: &Sexp) -> Sexp {
+fn requoted(loc: u32, head: &Rc<Sexp>, element: &Sexp) -> Sexp {
     let at = match element {
         Sexp::SN(at) | Sexp::SC(at, _, _) | Sexp::SI(at, _) | Sexp::SQ(at, _, _) | Sexp::SA(at, _) => *at,
     };
@@ -447,7 +442,7 @@ fn quoted(loc: u32, head: &Rc<Sexp>, element: &Sexp) -> Sexp {
 }
 
 /// Nested parallel lets, the first binding outermost.
-fn desugared(bindings: &[Binding], body: &Body) -> Body {
+fn desugar_sequential_let_bindings(bindings: &[Binding], body: &Body) -> Body {
     match bindings {
         [] => body.clone(),
         [first, rest @ ..] => Body::BL(Box::new(Let {
@@ -456,7 +451,7 @@ fn desugared(bindings: &[Binding], body: &Body) -> Body {
             keyword: None,
             hint: Hint::Absent,
             bindings: vec![first.clone()],
-            body: desugared(rest, body),
+            body: desugar_sequential_let_bindings(rest, body),
         })),
     }
 }

@@ -6,18 +6,18 @@ use std::collections::BTreeSet;
 pub type Names = BTreeSet<Bytes>;
 
 #[derive(Debug, PartialEq, Eq)]
-pub enum Outcome {
+pub enum Toposorted {
     Ordered(Vec<usize>),
     /// The indices that stay unplaced, in the row's sequence.
     Deadlock(Vec<usize>),
 }
 
-pub fn order(bindings: &[Binding]) -> Outcome {
+pub fn toposort_assign_bindings(bindings: &[Binding]) -> Toposorted {
     turns(bindings).0
 }
 
 /// The outcome, and the turns that it takes.
-pub fn turns(bindings: &[Binding]) -> (Outcome, u32) {
+pub fn turns(bindings: &[Binding]) -> (Toposorted, u32) {
     let has: Vec<Names> = bindings.iter().map(provisions).collect();
     let needs: Vec<Names> = bindings.iter().map(|binding| needed(&binding.body, &has)).collect();
     let mut row: Vec<usize> = (0..bindings.len()).collect();
@@ -28,19 +28,19 @@ pub fn turns(bindings: &[Binding]) -> (Outcome, u32) {
         let done: Names = row[..placed].iter().flat_map(|index| has[*index].clone()).collect();
         let picked: Vec<usize> = (placed..row.len()).filter(|position| needs[row[*position]].is_subset(&done)).collect();
         if picked.is_empty() {
-            return (Outcome::Deadlock(row[placed..].to_vec()), turns);
+            return (Toposorted::Deadlock(row[placed..].to_vec()), turns);
         }
         for position in picked {
             row.swap(position, placed);
             placed += 1;
         }
     }
-    (Outcome::Ordered(row), turns)
+    (Toposorted::Ordered(row), turns)
 }
 
 fn provisions(binding: &Binding) -> Names {
     let mut names = Names::new();
-    pattern_names(&binding.pattern, &mut names);
+    pattern_provides(&binding.pattern, &mut names);
     names
 }
 
@@ -51,10 +51,10 @@ fn needed(body: &Body, has: &[Names]) -> Names {
     words.into_iter().filter(|word| has.iter().any(|names| names.contains(word))).collect()
 }
 
-fn pattern_names(pattern: &Pattern, names: &mut Names) {
+fn pattern_provides(pattern: &Pattern, names: &mut Names) {
     match pattern {
         Pattern::Name(name) => word(name, names),
-        Pattern::Complex(sexp) => sexp_names(sexp, names),
+        Pattern::Complex(sexp) => make_provides_set(sexp, names),
     }
 }
 
@@ -62,12 +62,12 @@ fn word(bytes: &[u8], names: &mut Names) {
     names.insert(bytes.to_vec());
 }
 
-fn sexp_names(sexp: &Sexp, names: &mut Names) {
+fn make_provides_set(sexp: &Sexp, names: &mut Names) {
     match sexp {
         Sexp::SN(_) => {}
         Sexp::SC(_, head, tail) => {
-            sexp_names(head, names);
-            sexp_names(tail, names);
+            make_provides_set(head, names);
+            make_provides_set(tail, names);
         }
         Sexp::SI(_, bytes) | Sexp::SQ(_, _, bytes) | Sexp::SA(_, bytes) => word(bytes, names),
     }
@@ -79,9 +79,9 @@ fn body_words(body: &Body, names: &mut Names) {
         Body::BF(data) => lambda_words(data, names),
         Body::BQ(sexp) => {
             word(b"q", names);
-            sexp_names(sexp, names);
+            make_provides_set(sexp, names);
         }
-        Body::BV(sexp) => sexp_names(sexp, names),
+        Body::BV(sexp) => make_provides_set(sexp, names),
         Body::BC(_, elements, tail) => {
             elements.iter().for_each(|element| body_words(element, names));
             if let Some(tail) = tail {
@@ -101,7 +101,7 @@ fn let_words(data: &Let, names: &mut Names) {
     };
     word(marker, names);
     for binding in &data.bindings {
-        pattern_names(&binding.pattern, names);
+        pattern_provides(&binding.pattern, names);
         body_words(&binding.body, names);
     }
     body_words(&data.body, names);
@@ -111,9 +111,9 @@ fn lambda_words(data: &Lambda, names: &mut Names) {
     word(b"lambda", names);
     if truthy(&data.capture_args) {
         word(b"&", names);
-        sexp_names(&data.capture_args, names);
+        make_provides_set(&data.capture_args, names);
     }
-    sexp_names(&data.args, names);
+    make_provides_set(&data.args, names);
     body_words(&data.body, names);
 }
 
