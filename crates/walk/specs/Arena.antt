@@ -9,13 +9,17 @@ use lib.Dec.{leb}
 use lib.ListN.{length, take, drop}
 use Rattle.names.specs.Maps.{NameMap, map-bytes, Limited}
 use Rattle.names.specs.Names.{Bytes, name-field}
-use Rattle.names.specs.Segments.{At, SameOutside}
+use Rattle.names.specs.Segments.{At, SameOutside, Filled}
 use Rattle.records.specs.StepAnswer.{Outcome, gives, refuses, Gives}
 use Rattle.records.specs.Records.{head-width, Sexp, sexp-bytes}
 use Rattle.records.specs.Valid.{SexpFields, cons-depth}
 use Rattle.records.specs.declared.Step.{Step}
 use Rattle.walk.specs.Steps.{Out, done, refused, over-long}
 use Rattle.walk.specs.declared.Task.{Task}
+
+-- bytes are written at a place, and nothing else changes
+abbrev pub Writes : Bytes → Bytes → ℕ → Bytes → Type 0
+Writes old new at bs = Filled old new at bs (length bs)
 
 -- a map of so many bytes stands at the end of memory, every name of it within its limit
 pub record MapAt (mem : Bytes) (len : ℕ) (m : NameMap) : Type 0 where

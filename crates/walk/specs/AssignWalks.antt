@@ -168,6 +168,12 @@ pub record BindingStarts (mem : Bytes) (starts : List ℕ) (bs : List Binding) :
   pub there : At mem (getD starts 0 0) (joined binding-bytes bs)
   pub starts-at : (i : ℕ) → i ≤ length bs → getD starts i 0 ≡ getD starts 0 0 + length (joined binding-bytes (take i bs))
 
+-- `after` says it of the bindings that stand in s from `first` on, as many as there is room for in `before`
+abbrev pub FindsStarts : Bytes → ℕ → List ℕ → List ℕ → Type 0
+FindsStarts s first before after =
+    (bs : List Binding) → Each ValidBinding bs → At s first (joined binding-bytes bs) → length before ≡ suc (length bs)
+    → (getD after 0 0 ≡ first) × BindingStarts s after bs
+
 -- of the bindings of these indices, as many of what f counts
 unfoldable pub at-all : (Binding → ℕ) → List Binding → List ℕ → ℕ
 at-all f bs [] = 0

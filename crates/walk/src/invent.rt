@@ -14,15 +14,14 @@ use names::refusals::placeless;
 use records::SexpView;
 use records::sexps::sexp_view;
 use records::skip::skip_sexp;
-ghost use lib.ListN.{length};
-ghost use Rattle.names.specs.Segments.{Filled};
+ghost use Rattle.walk.specs.Arena.{Writes};
 ghost use Rattle.walk.specs.DrawnMaps.{between, entry, EntryRoom, NameRoom, Drawable, Grown, Pushes, InventsAtom, InventsSexp};
 
 // Writes an entry of a map at a place: the name from start to end, which stands before it, and a
 // new one.
 fn put_entry(mem: &mut [u8], at: usize, start: usize, end: usize, new: &[u8])
     requires { ⌜ EntryRoom (now mem) at start end (now new) ⌝ }
-    ensures { λ _. ⌜ Filled (now (mem .entry)) (now (mem .exit)) at (entry (between (now (mem .entry)) start end) (now (new .entry))) (length (entry (between (now (mem .entry)) start end) (now (new .entry)))) ⌝ }
+    ensures { λ _. ⌜ Writes (now (mem .entry)) (now (mem .exit)) at (entry (between (now (mem .entry)) start end) (now (new .entry))) ⌝ }
 {
     let n = end - start;
     let name = at + NAME_WIDTH;

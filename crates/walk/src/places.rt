@@ -2,21 +2,16 @@
 use names::bytes::copy;
 use records::Family;
 use records::skip::past_record;
-ghost use mathlib.Core.List.{List};
 ghost use mathlib.Core.Path.{_≡_};
-ghost use Prim.Native.Nat.{suc, _≤_, _<_};
-ghost use lib.ListN.{length, getD};
-ghost use Rattle.names.specs.Segments.{At};
-ghost use Rattle.records.specs.Lists.{joined, Each};
-ghost use Rattle.records.specs.Parts.{ValidBinding};
-ghost use Rattle.records.specs.Records.{Binding, binding-bytes};
-ghost use Rattle.walk.specs.AssignWalks.{BindingStarts};
+ghost use Prim.Native.Nat.{_≤_, _<_};
+ghost use lib.ListN.{length};
+ghost use Rattle.walk.specs.AssignWalks.{FindsStarts};
 ghost use Rattle.walk.specs.CallWalks.{BackRoom, PutsBack, backs};
 
 // Where the bindings from a place on start, and where the last of them ends.
 pub fn binding_starts(s: &[u8], first: usize, starts: &mut [usize])
     requires { ⌜ (first ≤ length (now s)) × (0 < length (now starts)) ⌝ }
-    ensures { λ _. ⌜ ((bs : List Binding) → Each ValidBinding bs → At (now (s .entry)) first (joined binding-bytes bs) → length (now (starts .entry)) ≡ suc (length bs) → (getD (now (starts .exit)) 0 0 ≡ first) × BindingStarts (now (s .entry)) (now (starts .exit)) bs) ⌝ }
+    ensures { λ _. ⌜ FindsStarts (now (s .entry)) first (now (starts .entry)) (now (starts .exit)) ⌝ }
 {
     starts[0] = first;
     let mut i = 1;

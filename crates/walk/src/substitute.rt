@@ -24,12 +24,11 @@ ghost use mathlib.Core.Bool.{true};
 ghost use Prim.Native.Nat.{_+_, _≤_};
 ghost use lib.ListN.{length};
 ghost use Rattle.names.specs.Names.{name-limit};
-ghost use Rattle.names.specs.Segments.{Filled};
 ghost use Rattle.records.specs.Records.{head-width, sexp-bytes};
 ghost use Rattle.records.specs.Valid.{SexpFields};
 ghost use Rattle.records.specs.Views.{SeesSexp};
 ghost use Rattle.records.specs.declared.SexpView.the-variants.{Atom};
-ghost use Rattle.walk.specs.Arena.{Asks, Held, Substitutes, named};
+ghost use Rattle.walk.specs.Arena.{Asks, Held, Substitutes, Writes, named};
 ghost use Rattle.walk.specs.RenameInCons.{rename-atom, rename-in-cons, rename-in-qq};
 ghost use Rattle.walk.specs.Plans.{Plans, PairAtStart, substitution};
 ghost use Rattle.walk.specs.declared.Plan.the-variants.{Requoted, Alone};
@@ -39,7 +38,7 @@ fn put_atom(mem: &mut [u8], free: usize, name: &[u8])
     requires { ⌜ length (now name) ≤ name-limit ⌝ }
     requires { ⌜ head-width ≤ free ⌝ }
     requires { ⌜ free + length (named (now mem) (now name)) ≤ length (now mem) ⌝ }
-    ensures { λ _. ⌜ Filled (now (mem .entry)) (now (mem .exit)) free (named (now (mem .entry)) (now (name .entry))) (length (named (now (mem .entry)) (now (name .entry)))) ⌝ }
+    ensures { λ _. ⌜ Writes (now (mem .entry)) (now (mem .exit)) free (named (now (mem .entry)) (now (name .entry))) ⌝ }
 {
     copy(mem, 0, free, HEAD_WIDTH);
     put_name(mem, free + HEAD_WIDTH, name);
