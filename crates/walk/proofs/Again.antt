@@ -1,136 +1,35 @@
--- What an accepted call of Whole form, Children only or Single helper writes is accepted again, with the same F and the same length of work memory:
--- each rule keeps what Kept.antt says of a tree, no result is deeper (Limits.antt), and a step's record is at most F long. And no assign reached on the
--- way has a BM in a binding body. Assumes nothing.
-use mathlib.Core.Path.{_≡_, refl, ap, _∙_}
-use mathlib.Core.Bool.{Bool, true, false, _&&_}
+-- Each rule keeps what Kept.antt says of a tree, no result is deeper (Limits.antt), and a step's record is at most F long; and no assign reached on the way has a BM in a binding body. Assumes nothing.
+use mathlib.Core.Path.{_≡_, refl, ap}
+use mathlib.Core.Bool.{Bool, true, false}
 use mathlib.Core.List.{List, [], _∷_, _++_, List·Memᴰ·head, List·Memᴰ·tail}
-use mathlib.Core.Logic.{inl, inr}
 use mathlib.Core.Option.{Option, none, some}
-use Prim.Native.Nat.{ℕ, zero, suc, _+_, _-_, _*_, _≤_, _<_}
+use Prim.Native.Nat.{ℕ, zero, suc, _+_, _-_, _≤_, _<_}
 use native.Mathlib.Omega.{arith}
-use lib.Dec.{leb, leb→le, le→leb}
-use lib.ListN.{length, take, drop, getD}
-use lib.Seq.{take-at}
-use Rattle.names.specs.CallAnswer.{Result, accepted-answer, refused-answer, delivered, written, max-counter}
+use lib.Dec.{leb, leb→le}
+use lib.ListN.{length, getD}
 use Rattle.names.specs.Names.{Bytes, ascii, same, name-limit, gensym}
 use Rattle.names.specs.Maps.{NameMap}
-use Rattle.names.specs.Refusals.{placeless}
-use Rattle.names.specs.declared.Refusal.{Refusal}
-use Rattle.names.proofs.Same.{T-both, T-left}
 use Rattle.records.specs.declared.Zone.{Zone}
-use Rattle.records.specs.declared.Zone.the-variants.{Plain, InBinding, InMod}
-use Rattle.records.specs.Depth.{helper-depth, form-depth}
-use Rattle.records.specs.Limits.{level-limit, lambda-limit, least-longest, most-longest, work-factor}
-use Rattle.records.specs.Opened.{Opened, opened, closed, limits, no-mod, open-input}
-use Rattle.records.specs.Read.{Reader, readers, read-whole, binding-zone}
-use Rattle.records.specs.Records.{Loc, Kind, Sexp, SN, SC, SI, SQ, SA, Parallel, Sequential, Assign, Pattern, Name, Complex, Body, BL, BQ, BV, BC, BM, BF, Bodies, []ᵇ, _∷ᵇ_, Tail, no-tail, tail, Binding, BB, Helper, HC, HM, HD, HN, HR, Helpers, []ʰ, _∷ʰ_, Form, CF, list-of, to-bindings, bodies-count, helpers-count, form-bytes, helper-bytes}
-use Rattle.records.specs.Valid.{AreBytes, ValidName, ValidSexp, ValidPattern, BodyFields, HelperFields, FormFields, lambda-depth, helper-lambda-depth, form-lambda-depth, NoMod, BindingsNoMod, HelperNoMod, FormNoMod}
-use Rattle.records.proofs.Accepted.{Format, form-format, helper-format, opens, opened-valid}
+use Rattle.records.specs.declared.Zone.the-variants.{Plain}
+use Rattle.records.specs.Limits.{level-limit, lambda-limit}
+use Rattle.records.specs.Read.{binding-zone}
+use Rattle.records.specs.Records.{Loc, Sexp, SN, SC, SI, SQ, SA, Parallel, Sequential, Assign, Pattern, Name, Complex, Body, BL, BQ, BV, BC, BM, BF, Bodies, []ᵇ, _∷ᵇ_, Tail, no-tail, tail, Binding, BB, Helper, HC, HM, HD, HN, HR, Helpers, []ʰ, _∷ʰ_, Form, CF, list-of, bodies-count, helpers-count, form-bytes, helper-bytes}
+use Rattle.records.specs.Valid.{ValidName, ValidSexp, ValidPattern, BodyFields, HelperFields, FormFields, lambda-depth, helper-lambda-depth, form-lambda-depth, NoMod, HelperNoMod, FormNoMod}
 use Rattle.records.proofs.Complete.{bindings-same}
-use Rattle.records.proofs.Opened.{Start, start}
-use Rattle.records.proofs.Readers.{Any, T-of, true-of}
+use Rattle.records.proofs.Readers.{Any, T-of}
 use Rattle.ordering.specs.Lawful.{_is-in_}
 use Rattle.ordering.specs.Toposort.{Toposorted, ordered, deadlock}
 use Rattle.ordering.specs.Words.{toposort-assign-bindings}
-use Rattle.walk.specs.Steps.{M, Out, Event, made, done, refused, over-long, Visit, visits, ret, refuse, out-of-fuel, _>>=_, _>>_, after, step, child, further, add-to-sum, take-from-sum, fits, form-size, helper-size}
+use Rattle.walk.specs.Steps.{M, Out, made, done, refused, over-long, Visit, refuse, out-of-fuel, _>>_, after, step, child, further, add-to-sum, take-from-sum, fits, form-size, helper-size}
 use Rattle.walk.specs.Invent.{name-too-long, draw, invent-new-names-sexp, rename-in-cons-step}
 use Rattle.walk.specs.Patterns.{make-binding-unique, make-bindings-unique}
 use Rattle.walk.specs.Bodyforms.{each-body, call-tail, each-binding-body, Rules, args-then-in, rename-args-let, rename-args-desugared, rename-args-sequential, rename-assign-binding, rename-assign-bindings, rename-args-ordered, rename-args-assign, rename-args-bodyform, in-elements, rename-in-bodyform, body-rules, walk, deadlocked, log-assign, logged, no-binding, rename-in-quoted, rename-in-value}
 use Rattle.walk.specs.Helperforms.{FormRules, each-helper, further-helpers, rename-args-helperform, rename-in-helperform, rename-args-compileform, rename-in-compileform, rename-children-compileform, form-rules, form-walk, whole-walk, children-walk, helper-walk}
-use Rattle.walk.specs.Calls.{answered, call-run, whole-run, children-run, helper-run, whole-call, children-call, helper-call}
-use Rattle.walk.specs.Draws.{helper-atoms, form-atoms, dbl}
-use Rattle.walk.proofs.All.{All, all-none, all-cons, all-append, all-map}
-use Rattle.walk.proofs.Reached.{all-visits}
+use Rattle.walk.proofs.All.{All, all-none, all-cons, all-append}
 use Rattle.walk.proofs.Sizes.{order-below}
-use Rattle.walk.proofs.Visits.{order-length}
-use Rattle.walk.proofs.Limits.{WalkRefusal, Fine as Within, Runs, whole-runs, children-runs, helper-runs}
-use Rattle.walk.proofs.Kept.{Named, valid-cons, valid-atom, Kept, BodyKept, BodiesKept, TailKept, BindingKept, HelperKept, HelpersKept, FormKept, ListKept, all-at, LetKept, let-parts, let-kept, one-binding, kept-desugar}
-
--- an assign that stands in zone z has no BM in a binding body
-abbrev pub ClearIn : Zone → Visit → Type 0
-ClearIn z e = BindingsNoMod (binding-zone Assign z) (to-bindings (e .bindings))
-
--- P of a value that is given; and each assign reached is clear in zone z
-abbrev pub Fine : {A : Type 0} → Zone → (A → Type 0) → Out A → Type 0
-Fine z P (done log a c x) = All (ClearIn z) (visits log) × P a
-Fine z P (refused log r) = All (ClearIn z) (visits log)
-
--- so of what m gives, from any counter and sum
-pub record Gives {A : Type 0} (z : Zone) (P : A → Type 0) (m : M A) : Type 0 where
-  pub fine : (c x : ℕ) → Fine z P (m c x)
-
-fine-after : {A : Type 0} (z : Zone) (P : A → Type 0) (log : List Event) (o : Out A) → All (ClearIn z) (visits log) → Fine z P o → Fine z P (after log o)
-unfolding after
-fine-after z P log (done log₂ a c x) g f = (all-visits log log₂ g (f .0), f .1)
-fine-after z P log (refused log₂ r) g f = all-visits log log₂ g f
-
-gives-weaken : {A : Type 0} {z : Zone} {P Q : A → Type 0} {m : M A} → ((a : A) → P a → Q a) → Gives z P m → Gives z Q m
-gives-weaken {A} {z} {P} {Q} {m} w s = record { fine = λ c x. go (m c x) (s .fine c x) }
-  where
-    go : (o : Out A) → Fine z P o → Fine z Q o
-    go (done log a c x) p = (p .0, w a (p .1))
-    go (refused log r) q = q
-
--- what is clear in a binding body of a let is clear around it
-clear-around : (x : Kind) (z : Zone) (e : Visit) → ClearIn (binding-zone x z) e → ClearIn z e
-unfolding binding-zone
-clear-around Parallel z e p = p
-clear-around Sequential z e p = p
-clear-around Assign Plain e p = p
-clear-around Assign InBinding e p = p
-clear-around Assign InMod e p = p
-
-gives-around : {A : Type 0} {P : A → Type 0} {m : M A} (x : Kind) (z : Zone) → Gives (binding-zone x z) P m → Gives z P m
-gives-around {A} {P} {m} y z s = record { fine = λ c x. go (m c x) (s .fine c x) }
-  where
-    go : (o : Out A) → Fine (binding-zone y z) P o → Fine z P o
-    go (done log a c x) f = (all-map (clear-around y z) (f .0), f .1)
-    go (refused log r) f = all-map (clear-around y z) f
-
-gives-ret : {A : Type 0} {z : Zone} {P : A → Type 0} (a : A) → P a → Gives z P (ret a)
-unfolding ret
-gives-ret a p = record { fine = λ c x. (all-none, p) }
-
-gives-refuse : {A : Type 0} {z : Zone} {P : A → Type 0} (r : Refusal) → Gives {A = A} z P (refuse r)
-unfolding refuse
-gives-refuse r = record { fine = λ c x. all-none }
-
-gives-bind : {A B : Type 0} {z : Zone} {P : A → Type 0} {Q : B → Type 0} {m : M A} {f : A → M B} → Gives z P m → ((a : A) → P a → Gives z Q (f a)) → Gives z Q (m >>= f)
-unfolding _>>=_
-gives-bind {A} {B} {z} {P} {Q} {m} {f} s t = record { fine = λ c x. go (m c x) (s .fine c x) }
-  where
-    go : (o : Out A) → Fine z P o → Fine {A = B} z Q (elim o [ done log a c′ x′ ↦ after log (f a c′ x′) | refused log r ↦ refused log r ])
-    go (done log a c′ x′) p = fine-after z Q log (f a c′ x′) (p .0) (t a (p .1) .fine c′ x′)
-    go (refused log r) q = q
-
-gives-either : {A : Type 0} {z : Zone} {P : A → Type 0} {m k : M A} (b : Bool) → Gives z P m → Gives z P k → Gives {A = A} z P (elim b [ true ↦ m | false ↦ k ])
-gives-either true s t = s
-gives-either false s t = t
-
--- P, and a record at most F long
-abbrev pub Fits : {A : Type 0} → ℕ → (A → Bytes) → (A → Type 0) → A → Type 0
-Fits F bytes P a = P a × (length (bytes a) ≤ F)
-
--- a rule of bodies keeps what it is given
-abbrev pub Keeps : (Body → M Body) → Type 0
-Keeps f = (z : Zone) (k : ℕ) (b : Body) → BodyKept z k b → Gives z (BodyKept z k) (f b)
-
--- of helpers, and of forms
-abbrev pub KeepsHelper : (Helper → M Helper) → Type 0
-KeepsHelper f = (z : Zone) (k : ℕ) (x : Helper) → HelperKept z k x → Gives z (HelperKept z k) (f x)
-
-abbrev pub KeepsForm : (Form → M Form) → Type 0
-KeepsForm f = (z : Zone) (k : ℕ) (x : Form) → FormKept z k x → Gives z (FormKept z k) (f x)
-
-pub record KeepsRules (r : Rules) : Type 0 where
-  pub args-bodyform : Keeps (r .args-bodyform)
-  pub in-bodyform : (m : NameMap) → Named m → Keeps (r .in-bodyform m)
-
-pub record KeepsForms (q : FormRules) : Type 0 where
-  pub args-helperform : KeepsHelper (q .args-helperform)
-  pub in-helperform : (m : NameMap) → Named m → KeepsHelper (q .in-helperform m)
-  pub args-compileform : KeepsForm (q .args-compileform)
-  pub in-compileform : (m : NameMap) → Named m → KeepsForm (q .in-compileform m)
+use Rattle.walk.proofs.Splits.{order-length}
+use Rattle.walk.proofs.Kept.{Named, valid-cons, valid-atom, BodyKept, BodiesKept, TailKept, BindingKept, HelperKept, HelpersKept, FormKept, ListKept, all-at, LetKept, let-parts, let-kept, one-binding, kept-desugar}
+use Rattle.walk.proofs.Keeping.{ClearIn, Fine, Fits, Gives, Keeps, KeepsForm, KeepsForms, KeepsHelper, KeepsRules, fine-after, gives-around, gives-bind, gives-either, gives-refuse, gives-ret, gives-weaken}
 
 module _ (F : ℕ) where
   gives-add-to-sum : {z : Zone} (n : ℕ) → Gives z Any (add-to-sum F n)
@@ -461,93 +360,3 @@ module _ (F : ℕ) where
   pub helper-keeps : (x : Helper) → HelperKept Plain lambda-limit x → Gives Plain (Fits F helper-bytes (HelperKept Plain lambda-limit)) (helper-walk F x)
   unfolding helper-walk form-walk form-rules helper-size
   helper-keeps x p = gives-fitting _ (gives-rename-args-helperform (keeps-walk (level-limit - 1)) (keeps-form-walk (level-limit - 1)) Plain lambda-limit x p)
-
-module _ (F work : ℕ) where
-  -- any counter within its limit will do
-  other-counter : (c c′ : ℕ) → limits F work c ≡ true → c′ ≤ max-counter → limits F work c′ ≡ true
-  unfolding limits
-  other-counter c c′ e h =
-      let t = leb least-longest F && leb F most-longest && leb (work-factor * F) work in
-      true-of _ (T-both t (leb c′ max-counter) (T-left t (leb c max-counter) (T-of e)) (le→leb c′ max-counter h))
-
-  -- of an input that is opened
-  pub opened-limits : {A : Type 0} (reader : Reader A) (c : ℕ) (input : Bytes) (a : A) → open-input reader F work c input ≡ opened a → limits F work c ≡ true
-  unfolding open-input
-  opened-limits {A} reader c input a h = go (limits F work c) refl h
-    where
-      go : (b : Bool) → limits F work c ≡ b
-          → _≡_ {A = Opened A} (elim b [ false ↦ closed (placeless 1) | true ↦ elim (leb (length input) F) [ false ↦ closed (placeless 3) | true ↦ no-mod (read-whole reader input) ] ]) (opened a) → limits F work c ≡ true
-      go true e q = e
-      go false e q = absurd (let z : _≡_ {A = ℕ} 0 1 = cc in omega arith)
-
--- What a call has written, with the answer and buffer r, is the record of the tree that its walk gives, and the call's reader opens it as that tree.
-pub record Again {A : Type 0} (reader : Reader A) (walk-of : ℕ → A → M A) (bytes : A → Bytes) (F work c : ℕ) (input : Bytes) (r : Result) : Type 0 where
-  pub given : A
-  pub is-given : open-input reader F work c input ≡ opened given
-  pub result : A
-  pub log : List Event
-  pub counter : ℕ
-  pub sum : ℕ
-  pub walked : walk-of F given c 0 ≡ done log result counter sum
-  pub wrote : take (r .0 .len) (r .1) ≡ bytes result
-  pub reads : (c′ : ℕ) → c′ ≤ max-counter → open-input reader F work c′ (take (r .0 .len) (r .1)) ≡ opened result
-
-not-zero : {n : ℕ} → WalkRefusal n → n ≡ 0 → ⊥
-not-zero (inl e) z = omega arith
-not-zero (inr (inl e)) z = omega arith
-not-zero (inr (inr e)) z = omega arith
-
-module _ {A : Type 0} {reader : Reader A} {walk-of : ℕ → A → M A} {bytes : A → Bytes} {Fields : A → Type 0} {Clear : Zone → A → Type 0} {deep lambdas count : A → ℕ}
-    (format : Format reader bytes (λ a. Fields a × (deep a ≤ level-limit) × (lambdas a ≤ lambda-limit)) (Clear Plain))
-    (runs : (F : ℕ) (a : A) → deep a ≤ level-limit → Runs (dbl level-limit (count a)) (λ b. (deep b ≤ deep a) × (count b ≤ count a)) (walk-of F a))
-    (keeps : (F : ℕ) (a : A) → Kept Fields lambdas Clear Plain lambda-limit a → Gives Plain (Fits F bytes (Kept Fields lambdas Clear Plain lambda-limit)) (walk-of F a)) where
-  call-again : (F work c : ℕ) (input buffer : Bytes) → AreBytes input
-      → let r : Result = answered bytes c buffer (call-run reader walk-of F work c input) in r .0 .refusal .number ≡ 0 → Again reader walk-of bytes F work c input r
-  unfolding call-run answered refused-answer delivered written
-  call-again F work c input buffer b = go (open-input reader F work c input) refl (start reader F work c input)
-    where
-      Goal : Result → Type 0
-      Goal r = r .0 .refusal .number ≡ 0 → Again reader walk-of bytes F work c input r
-
-      delivers : (a t : A) (log : List Event) (c′ x : ℕ) → open-input reader F work c input ≡ opened a → walk-of F a c 0 ≡ done log t c′ x
-          → deep t ≤ level-limit → Fits F bytes (Kept Fields lambdas Clear Plain lambda-limit) t → (y : Bool)
-          → Goal (elim y as (λ _. Result) [ true ↦ (accepted-answer c′ 0 (length (bytes t)), written (bytes t) buffer) | false ↦ refused-answer c buffer (placeless 8) ])
-      delivers a t log c′ x e w h k true z =
-          let q = take-at (bytes t) (drop (length (bytes t)) buffer) (length (bytes t)) refl in
-          record {
-            given = a;
-            is-given = e;
-            result = t;
-            log = log;
-            counter = c′;
-            sum = x;
-            walked = w;
-            wrote = q;
-            reads = λ d l. ap (open-input reader F work d) q ∙ opens format F work d t (other-counter F work c d (opened-limits F work reader c input a e) l) (k .1) (k .0 .fields, h, k .0 .lambdas) (k .0 .clear);
-          }
-      delivers a t log c′ x e w h k false z = absurd (omega arith)
-
-      walked : (a : A) → open-input reader F work c input ≡ opened a → deep a ≤ level-limit → (o : Out A) → walk-of F a c 0 ≡ o → Within (dbl level-limit (count a)) (λ b. (deep b ≤ deep a) × (count b ≤ count a)) c o
-          → Fine Plain (Fits F bytes (Kept Fields lambdas Clear Plain lambda-limit)) o → Goal (answered bytes c buffer o)
-      walked a e h (done log t c′ x) w r k = delivers a t log c′ x e w (omega arith) (k .1) (leb (length (bytes t)) (length buffer))
-      walked a e h (refused log y) w r k = λ z. absurd (not-zero (r .1) z)
-
-      go : (o : Opened A) → open-input reader F work c input ≡ o → Start reader F work c input o
-          → Goal (answered bytes c buffer (elim o [ closed r ↦ refused [] r | opened a ↦ walk-of F a c 0 ]))
-      go (closed r) e s = λ z. absurd (omega arith)
-      go (opened a) e s =
-          let v = opened-valid format F work c input a b e in
-          walked a e (v .0 .1) (walk-of F a c 0) refl (runs F a (v .0 .1) .fine c 0) (keeps F a (record { fields = v .0 .0; lambdas = v .0 .2; clear = v .1 }) .fine c 0)
-
-module _ (F work c : ℕ) (input buffer : Bytes) (b : AreBytes input) where
-  pub whole-again : whole-call F work c input buffer .0 .refusal .number ≡ 0 → Again (readers level-limit .form) whole-walk form-bytes F work c input (whole-call F work c input buffer)
-  unfolding whole-call whole-run
-  whole-again = call-again {deep = form-depth} {count = form-atoms} form-format whole-runs whole-keeps F work c input buffer b
-
-  pub children-again : children-call F work c input buffer .0 .refusal .number ≡ 0 → Again (readers level-limit .form) children-walk form-bytes F work c input (children-call F work c input buffer)
-  unfolding children-call children-run
-  children-again = call-again {deep = form-depth} {count = form-atoms} form-format children-runs children-keeps F work c input buffer b
-
-  pub helper-again : helper-call F work c input buffer .0 .refusal .number ≡ 0 → Again (readers level-limit .helper) helper-walk helper-bytes F work c input (helper-call F work c input buffer)
-  unfolding helper-call helper-run
-  helper-again = call-again {deep = helper-depth} {count = helper-atoms} helper-format helper-runs helper-keeps F work c input buffer b

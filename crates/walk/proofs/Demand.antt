@@ -21,7 +21,8 @@ use Rattle.walk.specs.Helperforms.{whole-walk, children-walk, helper-wal
 use Rattle.walk.specs.Assigns.{HasOrder, AssignsOrdered}
 use Rattle.walk.specs.Calls.{answered, call-run, whole-run, children-run, helper-run, whole-call, children-call, helper-call, whole-visits, children-visits, helper-visits}
 use Rattle.walk.proofs.All.{All, all-none, all-cons, all-in, all-map}
-use Rattle.walk.proofs.Visits.{ordered-exactly, Done, Deadlocked, Ends, Good, Fine, Sound, whole-sound, children-sound, helper-sound}
+use Rattle.walk.proofs.Visits.{Done, Deadlocked, Ends, Good, Fine, Sound, whole-sound, children-sound, helper-sound}
+use Rattle.walk.proofs.Splits.{ordered-exactly}
 
 -- of a list whose elements but the last have P, one that has not P is the last
 last-one : {A : Type 0} (P : A → Type 0) (earlier before after : List A) (l e : A) → before ++ (e ∷ after) ≡ earlier ++ (l ∷ []) → All P earlier → ¬ P e → (e ≡ l) × (after ≡ [])

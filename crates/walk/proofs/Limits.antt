@@ -1,109 +1,34 @@
--- The walk runs within its bounds: a rule with fuel d, on a record at most d deep that has n atoms (specs/Draws.antt), refuses with 5, 6 or 7 alone (and
--- so never runs out of fuel), draws at most n times 2 to the d numbers, and gives back a record no deeper and with no more atoms. So no call runs out of fuel, and each moves the
--- counter by at most 2 to the 46. Assumes nothing.
+-- A rule with fuel d, on a record at most d deep that has n atoms (specs/Draws.antt), refuses with 5, 6 or 7 alone (and so never runs out of fuel), draws at most n times 2 to the d numbers, and gives back a record no deeper and with no more atoms. Assumes nothing.
 use mathlib.Core.Path.{_≡_, refl, ap, _∙_}
-use mathlib.Core.Logic.{_⊎_, inl, inr}
+use mathlib.Core.Logic.{inl, inr}
 use mathlib.Core.Bool.{Bool, true, false}
-use mathlib.Core.List.{List, [], _∷_, _++_, List·Memᴰ·head, List·Memᴰ·tail, List·Memᴰ·not-nil}
+use mathlib.Core.List.{List, [], _∷_, _++_, List·Memᴰ·head, List·Memᴰ·tail}
 use mathlib.Core.Option.{Option, none, some}
 use Prim.Native.Nat.{ℕ, zero, suc, _+_, _-_, _≤_, _<_, max}
 use native.Mathlib.Omega.{arith}
 use lib.Dec.{leb}
 use lib.ListN.{length, getD}
-use Rattle.names.specs.CallAnswer.{Result, accepted-answer, refused-answer, delivered, written}
 use Rattle.names.specs.Names.{Bytes, ascii, same, name-limit, gensym}
 use Rattle.names.specs.Maps.{NameMap}
-use Rattle.names.specs.Refusals.{placeless}
-use Rattle.names.specs.declared.Refusal.{Refusal}
 use Rattle.records.specs.Depth.{levels, depth, bodies-depth, tail-depth, binding-depth, helper-depth, helpers-depth, form-depth, list-depth}
-use Rattle.records.specs.Limits.{level-limit, most-longest}
-use Rattle.records.specs.Opened.{Opened, opened, closed, open-input}
-use Rattle.records.specs.Read.{Reader, read-whole, readers, whole}
-use Rattle.records.specs.Records.{Loc, Sexp, SN, SC, SI, SQ, SA, Parallel, Sequential, Assign, Pattern, Name, Complex, Body, BL, BQ, BV, BC, BM, BF, Bodies, []ᵇ, _∷ᵇ_, Tail, no-tail, tail, Binding, BB, Helper, HC, HM, HD, HN, HR, Helpers, []ʰ, _∷ʰ_, Form, CF, list-of, bindings-count, form-bytes, helper-bytes}
-use Rattle.records.proofs.Depth.{form-deep, helper-deep}
-use Rattle.records.proofs.Exact.{form-read-back, helper-read-back, bindings-counted}
+use Rattle.records.specs.Limits.{level-limit}
+use Rattle.records.specs.Records.{Loc, Sexp, SN, SC, SI, SQ, SA, Parallel, Sequential, Assign, Pattern, Name, Complex, Body, BL, BQ, BV, BC, BM, BF, Bodies, []ᵇ, _∷ᵇ_, Tail, no-tail, tail, Binding, BB, Helper, HC, HM, HD, HN, HR, Helpers, []ʰ, _∷ʰ_, Form, CF, list-of, bindings-count}
+use Rattle.records.proofs.Exact.{bindings-counted}
 use Rattle.records.proofs.Readers.{Any}
-use Rattle.records.proofs.Opened.{OpenedFrom, Start, start}
 use Rattle.ordering.specs.Lawful.{_is-in_}
 use Rattle.ordering.specs.Toposort.{Toposorted, ordered, deadlock}
 use Rattle.ordering.specs.Words.{toposort-assign-bindings}
-use Rattle.walk.specs.Steps.{M, Out, Event, made, done, refused, over-long, Visit, visits, events, ret, refuse, _>>=_, _>>_, after, step, child, further, add-to-sum, take-from-sum, fits}
+use Rattle.walk.specs.Steps.{M, Out, made, done, refused, over-long, Visit, refuse, _>>_, after, step, child, further, add-to-sum, take-from-sum, fits}
 use Rattle.walk.specs.Invent.{name-too-long, draw, invent-new-names-sexp, rename-in-cons-step}
 use Rattle.walk.specs.Patterns.{make-binding-unique, make-bindings-unique}
 use Rattle.walk.specs.Bodyforms.{desugar-sequential-let-bindings, each-body, call-tail, each-binding-body, Rules, args-then-in, rename-args-let, rename-args-desugared, rename-args-sequential, rename-assign-binding, rename-assign-bindings, rename-args-ordered, rename-args-assign, rename-args-bodyform, in-elements, rename-in-bodyform, body-rules, walk, deadlocked, log-assign, logged, no-binding, rename-in-quoted, rename-in-value}
 use Rattle.walk.specs.Helperforms.{FormRules, each-helper, further-helpers, rename-args-helperform, rename-in-helperform, rename-args-compileform, rename-in-compileform, rename-children-compileform, form-rules, form-walk, whole-walk, children-walk, helper-walk}
-use Rattle.walk.specs.Calls.{answered, call-run, whole-run, children-run, helper-run, whole-call, children-call, helper-call, whole-visits, children-visits, helper-visits}
-use Rattle.walk.specs.Draws.{dbl, sexp-atoms, pattern-atoms, atoms, bodies-atoms, tail-atoms, binding-atoms, bindings-atoms, helper-atoms, helpers-atoms, form-atoms, patterns-of, inside-of, list-atoms, most}
+use Rattle.walk.specs.Draws.{dbl, sexp-atoms, pattern-atoms, atoms, bodies-atoms, tail-atoms, binding-atoms, bindings-atoms, helper-atoms, helpers-atoms, form-atoms, patterns-of, inside-of, list-atoms}
 use Rattle.records.proofs.Lists.{list-count}
-use Rattle.walk.proofs.All.{All, all-none, all-cons, all-map, all-in}
-use Rattle.walk.proofs.Reached.{all-visits}
+use Rattle.walk.proofs.All.{all-none, all-cons}
 use Rattle.walk.proofs.Sizes.{dbl-add, dbl-mono, dbl-least, dbl-twice, sum-at, order-below, order-sum, depth-to-bindings, depth-list-of, depth-desugar, positive, pick-depth, atoms-desugar, some-level, helper-positive, form-positive}
-use Rattle.walk.proofs.Atoms.{list-parts, atoms-to-bindings, atoms-list-of, most-cons, few-form, few-helper}
-
-abbrev pub Below : ℕ → Visit → Type 0
-Below k e = e .counter ≤ k
-
--- a walk refuses as deadlocked, for a made name that is too long, or for a record that is too long
-abbrev pub WalkRefusal : ℕ → Type 0
-WalkRefusal n = (n ≡ 5) ⊎ ((n ≡ 6) ⊎ (n ≡ 7))
-
--- from the counter c: at most n further, at each assign reached too, and P of the result; or a refusal of the walk
-abbrev pub Fine : {A : Type 0} → ℕ → (A → Type 0) → ℕ → Out A → Type 0
-Fine n P c (done log a c′ x) = All (Below (c + n)) (visits log) × (c′ ≤ c + n) × P a
-Fine n P c (refused log r) = All (Below (c + n)) (visits log) × WalkRefusal (r .number)
-
-pub record Runs {A : Type 0} (n : ℕ) (P : A → Type 0) (m : M A) : Type 0 where
-  pub fine : (c x : ℕ) → Fine n P c (m c x)
-
-runs-ret : {A : Type 0} {P : A → Type 0} {n : ℕ} (a : A) → P a → Runs n P (ret a)
-unfolding ret
-runs-ret a p = record { fine = λ c x. (all-none, omega arith, p) }
-
-runs-deadlock : {A : Type 0} {P : A → Type 0} {n : ℕ} (l : Loc) → Runs {A = A} n P (refuse (deadlocked l))
-unfolding refuse
-runs-deadlock l = record { fine = λ c x. (all-none, inl refl) }
-
-module _ {A : Type 0} {P Q : A → Type 0} where
-  fine-more : (n k c d : ℕ) (o : Out A) → d + n ≤ c + k → ((a : A) → P a → Q a) → Fine n P d o → Fine k Q c o
-  fine-more n k c d (done log a c′ x) h w f = (all-map (λ e q. omega arith) (f .0), omega arith, w a (f .2))
-  fine-more n k c d (refused log r) h w f = (all-map (λ e q. omega arith) (f .0), f .1)
-
-  runs-weaken : {n k : ℕ} {m : M A} → n ≤ k → ((a : A) → P a → Q a) → Runs n P m → Runs k Q m
-  runs-weaken {n} {k} {m} h w s = record { fine = λ c x. fine-more n k c c (m c x) (omega arith) w (s .fine c x) }
-
--- as `runs-weaken`, of the number alone
-runs-more : {A : Type 0} {P : A → Type 0} {n k : ℕ} {m : M A} → n ≤ k → Runs n P m → Runs k P m
-runs-more h s = runs-weaken h (λ a p. p) s
-
-fine-after : {A : Type 0} (n : ℕ) (P : A → Type 0) (c : ℕ) (log : List Event) (o : Out A) → All (Below (c + n)) (visits log) → Fine n P c o → Fine n P c (after log o)
-unfolding after
-fine-after n P c log (done log₂ a c′ x) g f = (all-visits log log₂ g (f .0), f .1, f .2)
-fine-after n P c log (refused log₂ r) g f = (all-visits log log₂ g (f .0), f .1)
-
-runs-bind : {A B : Type 0} {n k : ℕ} {P : A → Type 0} {Q : B → Type 0} {m : M A} {f : A → M B} → Runs n P m → ((a : A) → P a → Runs k Q (f a)) → Runs (n + k) Q (m >>= f)
-unfolding _>>=_
-runs-bind {A} {B} {n} {k} {P} {Q} {m} {f} s t = record { fine = λ c x. go c (m c x) (s .fine c x) }
-  where
-    go : (c : ℕ) (o : Out A) → Fine n P c o → Fine {A = B} (n + k) Q c (elim o [ done log a c′ x′ ↦ after log (f a c′ x′) | refused log r ↦ refused log r ])
-    go c (done log a c′ x′) r = fine-after (n + k) Q c log (f a c′ x′) (all-map (λ e q. omega arith) (r .0)) (fine-more k (n + k) c c′ (f a c′ x′) (omega arith) (λ b q. q) (t a (r .2) .fine c′ x′))
-    go c (refused log y) r = (all-map (λ e q. omega arith) (r .0), r .1)
-
--- at most so deep, and so many atoms
-abbrev pub Small : ℕ → ℕ → Body → Type 0
-Small d n b = (depth b ≤ d) × (atoms b ≤ n)
-
-abbrev pub SmallHelper : ℕ → ℕ → Helper → Type 0
-SmallHelper d n x = (helper-depth x ≤ d) × (helper-atoms x ≤ n)
-
-abbrev pub SmallForm : ℕ → ℕ → Form → Type 0
-SmallForm d n f = (form-depth f ≤ d) × (form-atoms f ≤ n)
-
--- as deep and as long as l, and no more atoms in the patterns, nor in the bodies
-pub record Like (l k : List Binding) : Type 0 where
-  pub deep : list-depth k ≤ list-depth l
-  pub long : length k ≡ length l
-  pub patterns : patterns-of k ≤ patterns-of l
-  pub inside : inside-of k ≤ inside-of l
+use Rattle.walk.proofs.Atoms.{list-parts, atoms-to-bindings, atoms-list-of, most-cons}
+use Rattle.walk.proofs.RunBounds.{Below, Fine, Like, Runs, Small, SmallForm, SmallHelper, fine-after, runs-bind, runs-deadlock, runs-more, runs-ret, runs-weaken}
 
 module _ (F : ℕ) where
   runs-add-to-sum : (n : ℕ) → Runs 0 Any (add-to-sum F n)
@@ -497,76 +422,3 @@ module _ (F : ℕ) where
   pub helper-runs : BoundedHelper level-limit (helper-walk F)
   unfolding helper-walk
   helper-runs x h = runs-form-walk level-limit .args-helperform x h
-
-most-draws : dbl level-limit most-longest ≡ most
-unfolding dbl
-most-draws = refl
-
--- a call from the counter c, the assigns that it reaches, and its answer: no number above 8, and no counter that passes 64 bits
-pub record CallRuns (c : ℕ) (list : List Visit) (r : Result) : Type 0 where
-  pub number : r .0 .refusal .number ≤ 8
-  pub counter : r .0 .counter ≤ c + most
-  pub inside : (e : Visit) → e is-in list → e .counter ≤ c + most
-
-module _ {A : Type 0} (reader : Reader A) (walk-of : ℕ → A → M A) (bytes : A → Bytes) (deep count : A → ℕ)
-    (shallow : (input : Bytes) (a : A) (o : Option ℕ) → read-whole reader input ≡ whole a o → deep a ≤ level-limit)
-    (back : (input : Bytes) (a : A) (o : Option ℕ) → read-whole reader input ≡ whole a o → input ≡ bytes a)
-    (few : (a : A) → count a ≤ length (bytes a))
-    (s : (F : ℕ) (a : A) → deep a ≤ level-limit → Runs (dbl level-limit (count a)) (λ b. (deep b ≤ deep a) × (count b ≤ count a)) (walk-of F a)) where
-  bounded : (F work c : ℕ) (input : Bytes) (a : A) → OpenedFrom reader F c input a → Fine (dbl level-limit (count a)) (λ b. (deep b ≤ deep a) × (count b ≤ count a)) c (walk-of F a c 0)
-  bounded F work c input a q = s F a (shallow input a none (q .read)) .fine c 0
-
-  -- the walk of an input that is opened refuses with 5, 6 or 7 and nothing else
-  walk-refuses : (F work c : ℕ) (input : Bytes) (a : A) {log : List Event} {r : Refusal} → open-input reader F work c input ≡ opened a → walk-of F a c 0 ≡ refused log r → WalkRefusal (r .number)
-  walk-refuses F work c input a e w =
-      let q : OpenedFrom reader F c input a = rw e at (start reader F work c input) in
-      let f = rw w at (bounded F work c input a q) in
-      f .1
-
-  call-runs : (F work c : ℕ) (input buffer : Bytes) → let o = call-run reader walk-of F work c input in CallRuns c (visits (events o)) (answered bytes c buffer o)
-  unfolding call-run answered refused-answer delivered
-  call-runs F work c input buffer = go (open-input reader F work c input) (start reader F work c input)
-    where
-      delivers : {list : List Visit} (b : Bytes) (c′ : ℕ) → All (Below (c + most)) list → c′ ≤ c + most → (t : Bool)
-          → CallRuns c list (elim t as (λ _. Result) [ true ↦ (accepted-answer c′ 0 (length b), written b buffer) | false ↦ refused-answer c buffer (placeless 8) ])
-      delivers b c′ g h true = record { number = omega arith; counter = h; inside = λ e m. all-in g m }
-      delivers b c′ g h false = record { number = omega arith; counter = omega arith; inside = λ e m. all-in g m }
-
-      small : {n : ℕ} → WalkRefusal n → n ≤ 8
-      small (inl e) = omega arith
-      small (inr (inl e)) = omega arith
-      small (inr (inr e)) = omega arith
-
-      walked : (n : ℕ) (P : A → Type 0) → dbl level-limit n ≤ most → (o : Out A) → Fine (dbl level-limit n) P c o → CallRuns c (visits (events o)) (answered bytes c buffer o)
-      walked n P l (done log b c′ h) f = delivers (bytes b) c′ (all-map (λ e q. omega arith) (f .0)) (omega (arith, f .1)) (leb (length (bytes b)) (length buffer))
-      walked n P l (refused log r) f = record { number = small (f .1); counter = omega arith; inside = λ e m. omega (arith, all-in (f .0) m) }
-
-      go : (o : Opened A) → Start reader F work c input o
-          → let w : Out A = elim o [ closed r ↦ refused [] r | opened a ↦ walk-of F a c 0 ] in CallRuns c (visits (events w)) (answered bytes c buffer w)
-      go (closed r) q = record { number = omega arith; counter = omega arith; inside = λ e m. absurd (List·Memᴰ·not-nil m) }
-      go (opened a) q =
-          let h : count a ≤ most-longest = omega (arith, few a, ap length (back input a none (q .read))) in
-          walked (count a) _ (omega (arith, most-draws, dbl-mono level-limit (count a) most-longest h)) (walk-of F a c 0) (bounded F work c input a q)
-
-module _ (F work c : ℕ) (input buffer : Bytes) where
-  pub whole-call-runs : CallRuns c (whole-visits F work c input) (whole-call F work c input buffer)
-  unfolding whole-call whole-visits whole-run
-  whole-call-runs = call-runs _ whole-walk form-bytes form-depth form-atoms form-deep form-read-back few-form whole-runs F work c input buffer
-
-  pub children-call-runs : CallRuns c (children-visits F work c input) (children-call F work c input buffer)
-  unfolding children-call children-visits children-run
-  children-call-runs = call-runs _ children-walk form-bytes form-depth form-atoms form-deep form-read-back few-form children-runs F work c input buffer
-
-  pub helper-call-runs : CallRuns c (helper-visits F work c input) (helper-call F work c input buffer)
-  unfolding helper-call helper-visits helper-run
-  helper-call-runs = call-runs _ helper-walk helper-bytes helper-depth helper-atoms helper-deep helper-read-back few-helper helper-runs F work c input buffer
-
-  -- once the walk has begun, it refuses with 5, 6 or 7 and nothing else
-  pub whole-refuses : (f : Form) {log : List Event} {r : Refusal} → open-input (readers level-limit .form) F work c input ≡ opened f → whole-walk F f c 0 ≡ refused log r → WalkRefusal (r .number)
-  whole-refuses = walk-refuses _ whole-walk form-bytes form-depth form-atoms form-deep form-read-back few-form whole-runs F work c input
-
-  pub children-refuses : (f : Form) {log : List Event} {r : Refusal} → open-input (readers level-limit .form) F work c input ≡ opened f → children-walk F f c 0 ≡ refused log r → WalkRefusal (r .number)
-  children-refuses = walk-refuses _ children-walk form-bytes form-depth form-atoms form-deep form-read-back few-form children-runs F work c input
-
-  pub helper-refuses : (x : Helper) {log : List Event} {r : Refusal} → open-input (readers level-limit .helper) F work c input ≡ opened x → helper-walk F x c 0 ≡ refused log r → WalkRefusal (r .number)
-  helper-refuses = walk-refuses _ helper-walk helper-bytes helper-depth helper-atoms helper-deep helper-read-back few-helper helper-runs F work c input

@@ -15,7 +15,8 @@ use Rattle.records.proofs.Accepted.{Format, form-format, helper-format, opened-
 use Rattle.ordering.specs.Lawful.{_is-in_}
 use Rattle.walk.specs.Calls.{call-run, whole-run, children-run, helper-run, whole-visits, children-visits, helper-visits}
 use Rattle.walk.specs.Steps.{M, Out, done, refused, Visit, visits, events}
-use Rattle.walk.proofs.Again.{ClearIn, Fine, Gives, Fits, whole-keeps, children-keeps, helper-keeps}
+use Rattle.walk.proofs.Again.{whole-keeps, children-keeps, helper-keeps}
+use Rattle.walk.proofs.Keeping.{ClearIn, Fine, Gives, Fits}
 use Rattle.walk.proofs.All.{All, all-none, all-in}
 use Rattle.walk.proofs.Kept.{Kept}
 

@@ -47,7 +47,7 @@ use Rattle.walk.specs.declared.Request.{Request}
 use Rattle.walk.specs.declared.Request.the-variants.{WholeForm, ChildrenOnly, SingleHelper}
 use Rattle.walk.specs.declared.Child.the-variants.{Helperform, Compileform}
 use Rattle.walk.specs.declared.Task.{Task}
-use Rattle.walk.proofs.Again.{opened-limits}
+use Rattle.walk.proofs.AgainCalls.{opened-limits}
 use Rattle.walk.proofs.Atoms.{few-helper, few-form}
 use Rattle.walk.proofs.MapLaws.{no-map}
 use Rattle.walk.proofs.RunLaws.{ended, ended-stops}

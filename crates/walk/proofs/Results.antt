@@ -24,10 +24,12 @@ use Rattle.walk.specs.Room.{room}
 use Rattle.walk.specs.Steps.{M, Out, done, refused, over-long, _>>=_, ret, refuse, fits, step, after, body-size}
 use Rattle.walk.specs.Walking.{rule, AnyBody, Fine, BodyReady}
 use Rattle.walk.specs.declared.Task.{Task}
-use Rattle.walk.proofs.Again.{Fine as Of, keeps-walk}
+use Rattle.walk.proofs.Again.{keeps-walk}
+use Rattle.walk.proofs.Keeping.{Fine as Of}
 use Rattle.walk.proofs.All.{all-none, all-cons}
 use Rattle.walk.proofs.Kept.{BodyKept, Named}
-use Rattle.walk.proofs.Limits.{Fine as Within, runs-walk, Runs, runs-invent-new-names-sexp, Bounded}
+use Rattle.walk.proofs.Limits.{runs-walk, runs-invent-new-names-sexp, Bounded}
+use Rattle.walk.proofs.RunBounds.{Fine as Within, Runs}
 use Rattle.walk.proofs.RoomLaws.{room-level}
 use Rattle.walk.proofs.RunLaws.{outcome-after, ended, outcome-log-assign, onward, bind-onward}
 use Rattle.walk.proofs.Sizes.{positive, dbl-twice}

@@ -11,7 +11,8 @@ use Rattle.records.specs.Records.{Loc, Sequential, Body, BL, BB, Bindings, []�
 use Rattle.walk.specs.Bodyforms.{desugar-sequential-let-bindings, log-assign, rename-args-desugared, rename-args-sequential, rename-args-bodyform, body-rules, walk}
 use Rattle.walk.specs.Steps.{M, Out, done, refused, out-of-fuel, after, _>>=_, _>>_, ret, add-to-sum, child, further, body-size}
 use Rattle.walk.proofs.Fuel.{OutOfFuel, same-run, less-walk}
-use Rattle.walk.proofs.Limits.{Fine, Runs, runs-walk}
+use Rattle.walk.proofs.Limits.{runs-walk}
+use Rattle.walk.proofs.RunBounds.{Fine, Runs}
 
 -- a run within its bounds does not run out of fuel
 has-fuel : {A : Type 0} {n : ℕ} {P : A → Type 0} {m : M A} → Runs n P m → (c x : ℕ) → ¬ OutOfFuel (m c x)

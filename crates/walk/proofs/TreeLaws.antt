@@ -24,10 +24,12 @@ use Rattle.walk.specs.declared.Child.{Child}
 use Rattle.walk.specs.declared.Child.the-variants.{Bodyform, Helperform, Compileform}
 use Rattle.walk.specs.declared.Way.{Way}
 use Rattle.walk.specs.declared.Way.the-variants.{Own, In, Further}
-use Rattle.walk.proofs.Again.{Gives as Keeping, keeps-form-walk}
+use Rattle.walk.proofs.Again.{keeps-form-walk}
+use Rattle.walk.proofs.Keeping.{Gives as Keeping}
 use Rattle.walk.proofs.DoneLaws.{child-gave, further-gave}
 use Rattle.walk.proofs.Kept.{Kept, HelperKept, FormKept}
-use Rattle.walk.proofs.Limits.{Runs, SmallHelper, SmallForm, runs-form-walk}
+use Rattle.walk.proofs.Limits.{runs-form-walk}
+use Rattle.walk.proofs.RunBounds.{Runs, SmallHelper, SmallForm}
 use Rattle.walk.proofs.Results.{limited-named, of-outcome, within-outcome, step-short, rule-draws, rule-fine, some-level}
 use Rattle.walk.proofs.RunLaws.{Neutral, neutral-step, neutral-refuse, neutral-rule}
 use Rattle.walk.proofs.Sizes.{helper-positive, form-positive}

@@ -1,6 +1,6 @@
 -- What holds of all the assigns that a walk reaches; the calls' demand 3 follows (Demand.antt). Assumes nothing.
 use mathlib.Core.Path.{_≡_, refl, ap, sym, _∙_, subst}
-use mathlib.Core.Logic.{_↔_, _⊎_, inl, inr}
+use mathlib.Core.Logic.{_⊎_, inl, inr}
 use mathlib.Core.Bool.{Bool, true, false}
 use mathlib.Core.List.{List, [], _∷_, _++_, map, reverseAux, append-assoc}
 use mathlib.Core.Option.{Option, none, some}
@@ -15,9 +15,7 @@ use Rattle.records.specs.Limits.{level-limit}
 use Rattle.records.specs.Records.{Loc, Sexp, SN, SC, SI, SQ, SA, Parallel, Sequential, Assign, Pattern, Name, Complex, Body, BL, BQ, BV, BC, BM, BF, Bodies, []ᵇ, _∷ᵇ_, Tail, no-tail, tail, Binding, BB, Bindings, Helper, HC, HM, HD, HN, HR, Helpers, []ʰ, _∷ʰ_, Form, CF, to-bindings, list-of}
 use Rattle.records.proofs.Complete.{bindings-same}
 use Rattle.ordering.specs.Toposort.{Toposorted, ordered, deadlock}
-use Rattle.ordering.specs.Lawful.{Full}
-use Rattle.ordering.specs.Words.{item, items, toposort-assign-bindings}
-use Rattle.ordering.proofs.Toposort.{sound, sound-length, complete, found}
+use Rattle.ordering.specs.Words.{toposort-assign-bindings}
 use Rattle.walk.proofs.All.{All, all-none, all-cons, all-append, all-map}
 use Rattle.walk.proofs.Reached.{visits-append, all-visits}
 use Rattle.walk.proofs.Fuel.{agreed, less-rename-assign-binding, less-walk}
@@ -27,58 +25,7 @@ use Rattle.walk.specs.Invent.{name-too-long, draw, invent-new-names-sexp
 use Rattle.walk.specs.Patterns.{make-binding-unique, make-bindings-unique}
 use Rattle.walk.specs.Bodyforms.{each-body, call-tail, each-binding-body, Rules, args-then-in, rename-args-let, rename-args-desugared, rename-args-sequential, rename-assign-binding, rename-assign-bindings, rename-args-ordered, rename-args-assign, rename-args-bodyform, in-elements, rename-in-bodyform, body-rules, walk, deadlocked, visit, log-assign, logged, no-binding, rename-in-quoted, rename-in-value}
 use Rattle.walk.specs.Helperforms.{FormRules, each-helper, further-helpers, rename-args-helperform, rename-in-helperform, rename-args-compileform, rename-in-compileform, rename-children-compileform, form-rules, form-walk, whole-walk, children-walk, helper-walk}
-
--- what a finished `m >>= k` went through
-pub record Split {A B : Type 0} (m : M A) (k : A → M B) (c x : ℕ) (b : B) (c′ x′ : ℕ) : Type 0 where
-  pub value : A
-  pub counter : ℕ
-  pub sum : ℕ
-  pub log₁ : List Event
-  pub log₂ : List Event
-  pub first : m c x ≡ done log₁ value counter sum
-  pub second : k value counter sum ≡ done log₂ b c′ x′
-
-not-done : {A : Type 0} {log log′ : List Event} {r : Refusal} {a : A} {c x : ℕ} → _≡_ {A = Out A} (refused log r) (done log′ a c x) → ⊥
-not-done e = let z : _≡_ {A = ℕ} 0 1 = cc in omega arith
-
-split : {A B : Type 0} (m : M A) (k : A → M B) (c x : ℕ) {log : List Event} {b : B} {c′ x′ : ℕ} → (m >>= k) c x ≡ done log b c′ x′ → Split m k c x b c′ x′
-unfolding _>>=_ after
-split {A} {B} m k c x {log} {b} {c′} {x′} h = go (m c x) refl h
-  where
-    go₂ : (log₁ : List Event) (a : A) (c₁ x₁ : ℕ) → m c x ≡ done log₁ a c₁ x₁ → (o : Out B) → k a c₁ x₁ ≡ o → after log₁ o ≡ done log b c′ x′ → Split m k c x b c′ x′
-    go₂ log₁ a c₁ x₁ e (done log₂ b₂ c₂ x₂) f q = record { value = a; counter = c₁; sum = x₁; log₁ = log₁; log₂ = log₂; first = e; second = cc (f, q) }
-    go₂ log₁ a c₁ x₁ e (refused log₂ r) f q = absurd (not-done q)
-
-    go : (o : Out A) → m c x ≡ o → _≡_ {A = Out B} (elim o [ done log₁ a c₁ x₁ ↦ after log₁ (k a c₁ x₁) | refused log₁ r ↦ refused log₁ r ]) (done log b c′ x′) → Split m k c x b c′ x′
-    go (done log₁ a c₁ x₁) e q = go₂ log₁ a c₁ x₁ e (k a c₁ x₁) refl q
-    go (refused log₁ r) e q = absurd (not-done q)
-
-same-value : {A : Type 0} {log log′ : List Event} {a b : A} {c c′ x x′ : ℕ} → _≡_ {A = Out A} (done log a c x) (done log′ b c′ x′) → a ≡ b
-same-value e = cc
-
-not-some : {A : Type 0} {a : A} → _≡_ {A = Option A} none (some a) → ⊥
-not-some e = let z : _≡_ {A = ℕ} 0 1 = cc in omega arith
-
-same-some : {A : Type 0} {a b : A} → _≡_ {A = Option A} (some a) (some b) → a ≡ b
-same-some e = cc
-
--- the theorems on orders, of an assign's bindings
-module _ (bs : List Binding) where
-  full-order : (is : List ℕ) → toposort-assign-bindings bs ≡ ordered is → Full (items bs) is
-  unfolding toposort-assign-bindings
-  full-order is q = sound (items bs) is q
-
-  pub order-length : (is : List ℕ) → toposort-assign-bindings bs ≡ ordered is → length is ≡ length bs
-  unfolding toposort-assign-bindings items
-  order-length is q = sound-length (items bs) is q ∙ length-map bs item
-
-  no-order : (l : List ℕ) → toposort-assign-bindings bs ≡ deadlock l → ¬ ((is : List ℕ) × Full (items bs) is)
-  unfolding toposort-assign-bindings
-  no-order l q f = complete (items bs) l q (f .0) (f .1)
-
-  pub ordered-exactly : ((is : List ℕ) × (toposort-assign-bindings bs ≡ ordered is) × Full (items bs) is) ↔ ((is : List ℕ) × Full (items bs) is)
-  unfolding toposort-assign-bindings
-  ordered-exactly = (λ o. (o .0, o .2), λ f. let o = found (items bs) .1 f in (o .0, o .1, sound (items bs) (o .0) (o .1)))
+use Rattle.walk.proofs.Splits.{full-order, no-order, not-done, not-some, order-length, same-some, same-value, split}
 
 module _ (F : ℕ) where
   abbrev pub Good : Visit → Type 0

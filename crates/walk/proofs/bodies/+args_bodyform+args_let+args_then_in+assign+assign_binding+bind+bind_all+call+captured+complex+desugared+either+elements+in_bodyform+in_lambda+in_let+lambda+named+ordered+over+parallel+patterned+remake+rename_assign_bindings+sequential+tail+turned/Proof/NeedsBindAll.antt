@@ -1,5 +1,6 @@
 -- What `bind_all` needs to meet its contract. Assumes nothing.
-use Rattle.walk.proofs.LetTurns.{Looping, loop-starts, loop-ends, turn, low, low-to, wide, ends, pattern-at, head-ready, head-wrote, patterns-fit, place, w as wrote, bind-ready, turn-refused, turn-read, turn-wrote, turn-short, turn-over, turn-done}
+use Rattle.walk.proofs.LetTurns.{low, low-to, wide, ends, pattern-at, head-ready, head-wrote, patterns-fit, place, w as wrote, bind-ready, turn-refused, turn-read, turn-wrote, turn-short, turn-over, turn-done}
+use Rattle.walk.proofs.LetMiddle.{Looping, loop-starts, loop-ends, turn}
 use Rattle.walk.specs.LetWalks.{AllReady}
 use borrow.Author.Needs.{needs}
 use native.Mathlib.Omega.{arith}

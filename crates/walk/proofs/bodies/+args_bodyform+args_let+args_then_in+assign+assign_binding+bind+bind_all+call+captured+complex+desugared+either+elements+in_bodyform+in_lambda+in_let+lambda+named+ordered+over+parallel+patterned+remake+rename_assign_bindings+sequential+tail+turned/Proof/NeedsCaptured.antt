@@ -2,7 +2,7 @@
 use borrow.Author.Needs.{needs}
 use native.Mathlib.Omega.{arith}
 use Prim.Native.Nat.{ℕ}
-use Rattle.walk.proofs.LambdaParts.{setting, widths, capture-args-asks, made-fits, captures-move, args-move, both-ready, all-frame, sums, captured-refused, captured-stopped, captured-done}
+use Rattle.walk.proofs.CapturedLaws.{setting, widths, capture-args-asks, captured-refused, made-fits, captures-move, args-move, both-ready, all-frame, sums, captured-stopped, captured-done}
 use Rattle.walk.proofs.bodies.captured.Reads as captured
 use Rattle.walk.proofs.bodies.+args_bodyform+args_let+args_then_in+assign+assign_binding+bind+bind_all+call+captured+complex+desugared+either+elements+in_bodyform+in_lambda+in_let+lambda+named+ordered+over+parallel+patterned+remake+rename_assign_bindings+sequential+tail+turned.Lts-captured as captured-lts
 use Rattle.walk.proofs.bodies.+args_bodyform+args_let+args_then_in+assign+assign_binding+bind+bind_all+call+captured+complex+desugared+either+elements+in_bodyform+in_lambda+in_let+lambda+named+ordered+over+parallel+patterned+remake+rename_assign_bindings+sequential+tail+turned.Proof.Base.{captured-at, captured-calls}
