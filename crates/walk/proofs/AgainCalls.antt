@@ -27,7 +27,7 @@ use Rattle.walk.specs.Steps.{M, Out, Event, done, refused}
 use Rattle.walk.specs.Helperforms.{whole-walk, children-walk, helper-walk}
 use Rattle.walk.specs.Calls.{answered, call-run, whole-run, children-run, helper-run, whole-call, children-call, helper-call}
 use Rattle.walk.specs.Draws.{helper-atoms, form-atoms, dbl}
-use Rattle.walk.proofs.Limits.{whole-runs, children-runs, helper-runs}
+use Rattle.walk.proofs.LimitsOfForms.{whole-runs, children-runs, helper-runs}
 use Rattle.walk.proofs.RunBounds.{WalkRefusal, Fine as Within, Runs}
 use Rattle.walk.proofs.Kept.{Kept}
 use Rattle.walk.proofs.Again.{children-keeps, helper-keeps, whole-keeps}

@@ -28,7 +28,7 @@ use Rattle.walk.specs.Draws.{dbl, helper-atoms, form-atoms, most}
 use Rattle.walk.proofs.All.{All, all-map, all-in}
 use Rattle.walk.proofs.Sizes.{dbl-mono}
 use Rattle.walk.proofs.Atoms.{few-form, few-helper}
-use Rattle.walk.proofs.Limits.{children-runs, helper-runs, whole-runs}
+use Rattle.walk.proofs.LimitsOfForms.{children-runs, helper-runs, whole-runs}
 use Rattle.walk.proofs.RunBounds.{Below, Fine, Runs, WalkRefusal}
 
 most-draws : dbl level-limit most-longest ≡ most

@@ -21,7 +21,8 @@ use Rattle.walk.specs.Helperforms.{whole-walk, children-walk, helper-wal
 use Rattle.walk.specs.Assigns.{HasOrder, AssignsOrdered}
 use Rattle.walk.specs.Calls.{answered, call-run, whole-run, children-run, helper-run, whole-call, children-call, helper-call, whole-visits, children-visits, helper-visits}
 use Rattle.walk.proofs.All.{All, all-none, all-cons, all-in, all-map}
-use Rattle.walk.proofs.Visits.{Done, Deadlocked, Ends, Good, Fine, Sound, whole-sound, children-sound, helper-sound}
+use Rattle.walk.proofs.Visits.{Done, Deadlocked, Ends, Good, Fine, Sound}
+use Rattle.walk.proofs.VisitsOfForms.{whole-sound, children-sound, helper-sound}
 use Rattle.walk.proofs.Splits.{ordered-exactly}
 
 -- of a list whose elements but the last have P, one that has not P is the last

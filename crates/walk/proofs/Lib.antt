@@ -20,11 +20,13 @@ pub mod Reached
 pub mod Fuel
 pub mod Splits
 pub mod Visits
+pub mod VisitsOfForms
 pub mod Demand
 pub mod Atoms
 pub mod Sizes
 pub mod RunBounds
 pub mod Limits
+pub mod LimitsOfForms
 pub mod CallBounds
 pub mod Sequential
 pub mod Kept

@@ -4,15 +4,14 @@ use mathlib.Core.Logic.{inl, inr}
 use mathlib.Core.Bool.{Bool, true, false}
 use mathlib.Core.List.{List, [], _∷_, _++_, List·Memᴰ·head, List·Memᴰ·tail}
 use mathlib.Core.Option.{Option, none, some}
-use Prim.Native.Nat.{ℕ, zero, suc, _+_, _-_, _≤_, _<_, max}
+use Prim.Native.Nat.{ℕ, zero, suc, _+_, _≤_, _<_, max}
 use native.Mathlib.Omega.{arith}
 use lib.Dec.{leb}
 use lib.ListN.{length, getD}
 use Rattle.names.specs.Names.{Bytes, ascii, same, name-limit, gensym}
 use Rattle.names.specs.Maps.{NameMap}
-use Rattle.records.specs.Depth.{levels, depth, bodies-depth, tail-depth, binding-depth, helper-depth, helpers-depth, form-depth, list-depth}
-use Rattle.records.specs.Limits.{level-limit}
-use Rattle.records.specs.Records.{Loc, Sexp, SN, SC, SI, SQ, SA, Parallel, Sequential, Assign, Pattern, Name, Complex, Body, BL, BQ, BV, BC, BM, BF, Bodies, []ᵇ, _∷ᵇ_, Tail, no-tail, tail, Binding, BB, Helper, HC, HM, HD, HN, HR, Helpers, []ʰ, _∷ʰ_, Form, CF, list-of, bindings-count}
+use Rattle.records.specs.Depth.{levels, depth, bodies-depth, tail-depth, binding-depth, list-depth}
+use Rattle.records.specs.Records.{Loc, Sexp, SN, SC, SI, SQ, SA, Parallel, Sequential, Assign, Pattern, Name, Complex, Body, BL, BQ, BV, BC, BM, BF, Bodies, []ᵇ, _∷ᵇ_, Tail, no-tail, tail, Binding, BB, list-of, bindings-count}
 use Rattle.records.proofs.Exact.{bindings-counted}
 use Rattle.records.proofs.Readers.{Any}
 use Rattle.ordering.specs.Lawful.{_is-in_}
@@ -22,13 +21,12 @@ use Rattle.walk.specs.Steps.{M, Out, made, done, refused, over-long, Vis
 use Rattle.walk.specs.Invent.{name-too-long, draw, invent-new-names-sexp, rename-in-cons-step}
 use Rattle.walk.specs.Patterns.{make-binding-unique, make-bindings-unique}
 use Rattle.walk.specs.Bodyforms.{desugar-sequential-let-bindings, each-body, call-tail, each-binding-body, Rules, args-then-in, rename-args-let, rename-args-desugared, rename-args-sequential, rename-assign-binding, rename-assign-bindings, rename-args-ordered, rename-args-assign, rename-args-bodyform, in-elements, rename-in-bodyform, body-rules, walk, deadlocked, log-assign, logged, no-binding, rename-in-quoted, rename-in-value}
-use Rattle.walk.specs.Helperforms.{FormRules, each-helper, further-helpers, rename-args-helperform, rename-in-helperform, rename-args-compileform, rename-in-compileform, rename-children-compileform, form-rules, form-walk, whole-walk, children-walk, helper-walk}
-use Rattle.walk.specs.Draws.{dbl, sexp-atoms, pattern-atoms, atoms, bodies-atoms, tail-atoms, binding-atoms, bindings-atoms, helper-atoms, helpers-atoms, form-atoms, patterns-of, inside-of, list-atoms}
+use Rattle.walk.specs.Draws.{dbl, sexp-atoms, pattern-atoms, atoms, bodies-atoms, tail-atoms, binding-atoms, bindings-atoms, patterns-of, inside-of, list-atoms}
 use Rattle.records.proofs.Lists.{list-count}
 use Rattle.walk.proofs.All.{all-none, all-cons}
-use Rattle.walk.proofs.Sizes.{dbl-add, dbl-mono, dbl-least, dbl-twice, sum-at, order-below, order-sum, depth-to-bindings, depth-list-of, depth-desugar, positive, pick-depth, atoms-desugar, some-level, helper-positive, form-positive}
+use Rattle.walk.proofs.Sizes.{dbl-add, dbl-mono, dbl-least, dbl-twice, sum-at, order-below, order-sum, depth-to-bindings, depth-list-of, depth-desugar, positive, pick-depth, atoms-desugar, some-level}
 use Rattle.walk.proofs.Atoms.{list-parts, atoms-to-bindings, atoms-list-of, most-cons}
-use Rattle.walk.proofs.RunBounds.{Below, Fine, Like, Runs, Small, SmallForm, SmallHelper, fine-after, runs-bind, runs-deadlock, runs-more, runs-ret, runs-weaken}
+use Rattle.walk.proofs.RunBounds.{Below, Fine, Like, Runs, Small, fine-after, runs-bind, runs-deadlock, runs-more, runs-ret, runs-weaken}
 
 module _ (F : ℕ) where
   runs-add-to-sum : (n : ℕ) → Runs 0 Any (add-to-sum F n)
@@ -44,7 +42,7 @@ module _ (F : ℕ) where
   runs-take-from-sum n = record { fine = λ c x. (all-none, omega arith, tt) }
 
   module _ {A : Type 0} {P : A → Type 0} {n : ℕ} (size : A → ℕ) where
-    runs-step : {m : M A} → Runs n P m → Runs n P (step F size m)
+    pub runs-step : {m : M A} → Runs n P m → Runs n P (step F size m)
     unfolding step fits
     runs-step {m} s = record { fine = λ c x. go c x (m c 0) (s .fine c 0) }
       where
@@ -56,11 +54,11 @@ module _ (F : ℕ) where
         go c x (done log a c′ x′) f = fine-after n P c log (fits F size a c′ x) (f .0) (go₂ c a c′ x (f .1, f .2) (leb (size a) F))
         go c x (refused log r) f = f
 
-    runs-child : {m : M A} → Runs n P m → Runs n P (child F size m)
+    pub runs-child : {m : M A} → Runs n P m → Runs n P (child F size m)
     unfolding child _>>_
     runs-child s = runs-more (omega arith) (runs-bind s λ a p. runs-bind (runs-add-to-sum (size a)) λ _ _. runs-ret {n = 0} a p)
 
-    runs-further : (f : A → M A) (old : A) → Runs n P (f old) → Runs n P (further F size old f)
+    pub runs-further : (f : A → M A) (old : A) → Runs n P (f old) → Runs n P (further F size old f)
     unfolding further _>>_
     runs-further f old s = runs-more (omega arith) (runs-bind s λ a p. runs-bind (runs-take-from-sum (size old)) λ _ _. runs-bind (runs-add-to-sum (size a)) λ _ _. runs-ret {n = 0} a p)
 
@@ -132,7 +130,7 @@ module _ (F : ℕ) where
 
   module _ (d : ℕ) (r : Rules) (s : BoundedRules d r) where
     -- on what another rule gave
-    runs-in-bodyform : (m : NameMap) (b o : Body) → depth b ≤ d → Small (depth b) (atoms b) o → Runs (dbl d (atoms b)) (Small (depth b) (atoms b)) (r .in-bodyform m o)
+    pub runs-in-bodyform : (m : NameMap) (b o : Body) → depth b ≤ d → Small (depth b) (atoms b) o → Runs (dbl d (atoms b)) (Small (depth b) (atoms b)) (r .in-bodyform m o)
     runs-in-bodyform m b o h q = runs-weaken (dbl-mono d (atoms o) (atoms b) (q .1)) (λ a p. (omega arith, omega arith)) (s .in-bodyform m o (omega arith))
 
     pub runs-args-then-in : (m : NameMap) (b : Body) → depth b ≤ d → Runs (dbl d (atoms b) + dbl d (atoms b)) (Small (depth b) (atoms b)) (args-then-in F r m b)
@@ -294,131 +292,3 @@ module _ (F : ℕ) where
   runs-walk (suc fuel) =
       let s = runs-walk fuel in
       record { args-bodyform = λ b h. runs-reach b (runs-step _ (runs-rename-args-bodyform fuel _ s b h)); in-bodyform = λ m b h. runs-step _ (runs-rename-in-bodyform fuel _ s m b h) }
-
-  -- a rule of helpers, and one of forms
-  abbrev pub BoundedHelper : ℕ → (Helper → M Helper) → Type 0
-  BoundedHelper d f = (x : Helper) → helper-depth x ≤ d → Runs (dbl d (helper-atoms x)) (SmallHelper (helper-depth x) (helper-atoms x)) (f x)
-
-  abbrev pub BoundedForm : ℕ → (Form → M Form) → Type 0
-  BoundedForm d f = (x : Form) → form-depth x ≤ d → Runs (dbl d (form-atoms x)) (SmallForm (form-depth x) (form-atoms x)) (f x)
-
-  -- at most so deep, and so many atoms
-  abbrev pub SmallHelpers : ℕ → ℕ → Helpers → Type 0
-  SmallHelpers d n xs = (helpers-depth xs ≤ d) × (helpers-atoms xs ≤ n)
-
-  module _ (d : ℕ) {f : Helper → M Helper} (s : BoundedHelper d f) where
-    pub runs-each-helper : (xs : Helpers) → helpers-depth xs ≤ d → Runs (dbl d (helpers-atoms xs)) (SmallHelpers (helpers-depth xs) (helpers-atoms xs)) (each-helper F f xs)
-    unfolding each-helper helpers-atoms helpers-depth
-    runs-each-helper []ʰ h = runs-ret _ (omega arith, omega arith)
-    runs-each-helper (x ∷ʰ xs) h =
-        runs-more (omega (arith, dbl-add d (helper-atoms x) (helpers-atoms xs)))
-        (runs-bind (runs-child _ (s x (omega arith))) λ x′ p. runs-bind (runs-each-helper xs (omega arith)) λ xs′ q. runs-ret {n = 0} _ (omega arith, omega arith))
-
-    pub runs-further-helpers : (xs : Helpers) → helpers-depth xs ≤ d → Runs (dbl d (helpers-atoms xs)) (SmallHelpers (helpers-depth xs) (helpers-atoms xs)) (further-helpers F f xs)
-    unfolding further-helpers helpers-atoms helpers-depth
-    runs-further-helpers []ʰ h = runs-ret _ (omega arith, omega arith)
-    runs-further-helpers (x ∷ʰ xs) h =
-        runs-more (omega (arith, dbl-add d (helper-atoms x) (helpers-atoms xs)))
-        (runs-bind (runs-further _ _ x (s x (omega arith))) λ x′ p. runs-bind (runs-further-helpers xs (omega arith)) λ xs′ q. runs-ret {n = 0} _ (omega arith, omega arith))
-
-  pub record BoundedForms (d : ℕ) (q : FormRules) : Type 0 where
-    pub args-helperform : BoundedHelper d (q .args-helperform)
-    pub in-helperform : (m : NameMap) → BoundedHelper d (q .in-helperform m)
-    pub args-compileform : BoundedForm d (q .args-compileform)
-    pub in-compileform : (m : NameMap) → BoundedForm d (q .in-compileform m)
-
-  module _ (d : ℕ) (r : Rules) (q : FormRules) (s : BoundedRules d r) (t : BoundedForms d q) where
-    runs-rename-args-helperform : BoundedHelper (suc d) (rename-args-helperform F r q)
-    unfolding rename-args-helperform helper-atoms helper-depth
-    runs-rename-args-helperform (HC l n x b) h = runs-more (omega (arith, dbl-twice d (atoms b))) (runs-bind (runs-child _ (s .args-bodyform b (omega arith))) λ b′ p. runs-ret {n = 0} _ (omega arith, omega arith))
-    runs-rename-args-helperform (HM l n x a f) h =
-        let y = sexp-atoms a in
-        let z = form-atoms f in
-        runs-more (omega (arith, dbl-twice d (y + z), dbl-add d y z, dbl-least d y))
-        (runs-bind (runs-invent-new-names-sexp [] a) λ m _. runs-bind (runs-child _ (runs-rename-in-cons-step true m a)) λ a′ u. runs-bind (runs-child _ (t .args-compileform f (omega arith))) λ f′ p.
-        runs-bind
-        (runs-weaken {P = SmallForm (form-depth f′) (form-atoms f′)} {Q = SmallForm (form-depth f) z} (dbl-mono d (form-atoms f′) z (p .1)) (λ g v. (omega arith, omega arith)) (runs-further _ _ f′ (t .in-compileform m f′ (omega arith))))
-        λ f″ w. runs-ret {n = 0} _ (omega arith, omega arith))
-    runs-rename-args-helperform (HD l i n x a b) h =
-        let y = sexp-atoms a in
-        let z = atoms b in
-        runs-more (omega (arith, dbl-twice d (y + z), dbl-add d y z, dbl-least d y))
-        (runs-bind (runs-invent-new-names-sexp [] a) λ m _. runs-bind (runs-child _ (runs-rename-in-cons-step true m a)) λ a′ u. runs-bind (runs-args-then-in d r s m b (omega arith)) λ b′ p. runs-ret {n = 0} _ (omega arith, omega arith))
-    runs-rename-args-helperform (HN l n x hs) h =
-        runs-more (omega (arith, dbl-twice d (helpers-atoms hs))) (runs-bind (runs-each-helper d (t .args-helperform) hs (omega arith)) λ hs′ p. runs-ret {n = 0} _ (omega arith, omega arith))
-    runs-rename-args-helperform (HR l n x) h = runs-ret _ (omega arith, omega arith)
-
-    runs-rename-in-helperform : (m : NameMap) → BoundedHelper (suc d) (rename-in-helperform F r q m)
-    unfolding rename-in-helperform helper-atoms helper-depth
-    runs-rename-in-helperform m (HC l n x b) h = runs-more (omega (arith, dbl-twice d (atoms b))) (runs-bind (runs-child _ (s .in-bodyform m b (omega arith))) λ b′ p. runs-ret {n = 0} _ (omega arith, omega arith))
-    runs-rename-in-helperform m (HM l n x a f) h =
-        runs-more (omega (arith, dbl-twice d (sexp-atoms a + form-atoms f), dbl-add d (sexp-atoms a) (form-atoms f)))
-        (runs-bind (runs-child _ (t .in-compileform m f (omega arith))) λ f′ p. runs-ret {n = 0} _ (omega arith, omega arith))
-    runs-rename-in-helperform m (HD l i n x a b) h =
-        runs-more (omega (arith, dbl-twice d (sexp-atoms a + atoms b), dbl-add d (sexp-atoms a) (atoms b)))
-        (runs-bind (runs-child _ (s .in-bodyform m b (omega arith))) λ b′ p. runs-ret {n = 0} _ (omega arith, omega arith))
-    runs-rename-in-helperform m (HN l n x hs) h = runs-ret _ (omega arith, omega arith)
-    runs-rename-in-helperform m (HR l n x) h = runs-ret _ (omega arith, omega arith)
-
-    runs-rename-args-compileform : BoundedForm (suc d) (rename-args-compileform F r q)
-    unfolding rename-args-compileform form-atoms form-depth
-    runs-rename-args-compileform (CF l x a hs b) h =
-        let w = sexp-atoms a in
-        let y = helpers-atoms hs in
-        let z = atoms b in
-        runs-more (omega (arith, dbl-twice d (w + (y + z)), dbl-add d w (y + z), dbl-add d y z, dbl-least d w))
-        (runs-bind (runs-invent-new-names-sexp [] a) λ m _. runs-bind (runs-child _ (runs-rename-in-cons-step true m a)) λ a′ u. runs-bind (runs-each-helper d (t .args-helperform) hs (omega arith)) λ hs′ p.
-        runs-bind (runs-child _ (s .args-bodyform b (omega arith))) λ b′ v.
-        runs-bind
-        (runs-weaken {P = SmallHelpers (helpers-depth hs′) (helpers-atoms hs′)} {Q = SmallHelpers (helpers-depth hs) y} (dbl-mono d (helpers-atoms hs′) y (p .1)) (λ k e. (omega arith, omega arith)) (runs-further-helpers d (t .in-helperform m) hs′ (omega arith)))
-        λ hs″ e. runs-bind (runs-further _ _ b′ (runs-in-bodyform d r s m b b′ (omega arith) v)) λ b″ g. runs-ret {n = 0} _ (omega arith, omega arith))
-
-    runs-rename-in-compileform : (m : NameMap) → BoundedForm (suc d) (rename-in-compileform F r q m)
-    unfolding rename-in-compileform form-atoms form-depth
-    runs-rename-in-compileform m (CF l x a hs b) h =
-        let w = sexp-atoms a in
-        let y = helpers-atoms hs in
-        let z = atoms b in
-        runs-more (omega (arith, dbl-twice d (w + (y + z)), dbl-add d w (y + z), dbl-add d y z))
-        (runs-bind (runs-each-helper d (t .in-helperform m) hs (omega arith)) λ hs′ p. runs-bind (runs-child _ (s .in-bodyform m b (omega arith))) λ b′ u. runs-ret {n = 0} _ (omega arith, omega arith))
-
-    runs-rename-children-compileform : BoundedForm (suc d) (rename-children-compileform F r q)
-    unfolding rename-children-compileform form-atoms form-depth
-    runs-rename-children-compileform (CF l x a hs b) h =
-        let w = sexp-atoms a in
-        let y = helpers-atoms hs in
-        let z = atoms b in
-        runs-more (omega (arith, dbl-twice d (w + (y + z)), dbl-add d w (y + z), dbl-add d y z))
-        (runs-bind (runs-each-helper d (t .args-helperform) hs (omega arith)) λ hs′ p. runs-bind (runs-child _ (s .args-bodyform b (omega arith))) λ b′ u. runs-ret {n = 0} _ (omega arith, omega arith))
-
-  -- the rules of helpers and forms
-  pub runs-form-walk : (fuel : ℕ) → BoundedForms fuel (form-walk F fuel)
-  unfolding form-walk form-rules
-  runs-form-walk zero = record {
-    args-helperform = λ x h. absurd (omega (arith, helper-positive x));
-    in-helperform = λ m x h. absurd (omega (arith, helper-positive x));
-    args-compileform = λ f h. absurd (omega (arith, form-positive f));
-    in-compileform = λ m f h. absurd (omega (arith, form-positive f));
-  }
-  runs-form-walk (suc fuel) =
-      let s = runs-walk fuel in
-      let t = runs-form-walk fuel in
-      record {
-        args-helperform = λ x h. runs-step _ (runs-rename-args-helperform fuel _ _ s t x h);
-        in-helperform = λ m x h. runs-step _ (runs-rename-in-helperform fuel _ _ s t m x h);
-        args-compileform = λ f h. runs-step _ (runs-rename-args-compileform fuel _ _ s t f h);
-        in-compileform = λ m f h. runs-step _ (runs-rename-in-compileform fuel _ _ s t m f h);
-      }
-
-  -- the walks of the three calls
-  pub whole-runs : BoundedForm level-limit (whole-walk F)
-  unfolding whole-walk
-  whole-runs f h = runs-form-walk level-limit .args-compileform f h
-
-  pub children-runs : BoundedForm level-limit (children-walk F)
-  unfolding children-walk
-  children-runs f h = runs-step _ (runs-rename-children-compileform (level-limit - 1) _ _ (runs-walk (level-limit - 1)) (runs-form-walk (level-limit - 1)) f h)
-
-  pub helper-runs : BoundedHelper level-limit (helper-walk F)
-  unfolding helper-walk
-  helper-runs x h = runs-form-walk level-limit .args-helperform x h

@@ -28,7 +28,7 @@ use Rattle.walk.proofs.Again.{keeps-form-walk}
 use Rattle.walk.proofs.Keeping.{Gives as Keeping}
 use Rattle.walk.proofs.DoneLaws.{child-gave, further-gave}
 use Rattle.walk.proofs.Kept.{Kept, HelperKept, FormKept}
-use Rattle.walk.proofs.Limits.{runs-form-walk}
+use Rattle.walk.proofs.LimitsOfForms.{runs-form-walk}
 use Rattle.walk.proofs.RunBounds.{Runs, SmallHelper, SmallForm}
 use Rattle.walk.proofs.Results.{limited-named, of-outcome, within-outcome, step-short, rule-draws, rule-fine, some-level}
 use Rattle.walk.proofs.RunLaws.{Neutral, neutral-step, neutral-refuse, neutral-rule}

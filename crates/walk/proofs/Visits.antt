@@ -4,7 +4,7 @@ use mathlib.Core.Logic.{_⊎_, inl, inr}
 use mathlib.Core.Bool.{Bool, true, false}
 use mathlib.Core.List.{List, [], _∷_, _++_, map, reverseAux, append-assoc}
 use mathlib.Core.Option.{Option, none, some}
-use Prim.Native.Nat.{ℕ, zero, suc, _+_, _-_, _≤_, _<_}
+use Prim.Native.Nat.{ℕ, zero, suc, _+_, _≤_, _<_}
 use native.Mathlib.Omega.{arith}
 use lib.Dec.{leb}
 use lib.ListN.{length, getD, length-map}
@@ -12,7 +12,7 @@ use Rattle.names.specs.Names.{Bytes, ascii, same, name-limit, gensym}
 use Rattle.names.specs.Maps.{NameMap}
 use Rattle.names.specs.declared.Refusal.{Refusal}
 use Rattle.records.specs.Limits.{level-limit}
-use Rattle.records.specs.Records.{Loc, Sexp, SN, SC, SI, SQ, SA, Parallel, Sequential, Assign, Pattern, Name, Complex, Body, BL, BQ, BV, BC, BM, BF, Bodies, []ᵇ, _∷ᵇ_, Tail, no-tail, tail, Binding, BB, Bindings, Helper, HC, HM, HD, HN, HR, Helpers, []ʰ, _∷ʰ_, Form, CF, to-bindings, list-of}
+use Rattle.records.specs.Records.{Loc, Sexp, SN, SC, SI, SQ, SA, Parallel, Sequential, Assign, Pattern, Name, Complex, Body, BL, BQ, BV, BC, BM, BF, Bodies, []ᵇ, _∷ᵇ_, Tail, no-tail, tail, Binding, BB, Bindings, to-bindings, list-of}
 use Rattle.records.proofs.Complete.{bindings-same}
 use Rattle.ordering.specs.Toposort.{Toposorted, ordered, deadlock}
 use Rattle.ordering.specs.Words.{toposort-assign-bindings}
@@ -24,7 +24,6 @@ use Rattle.walk.specs.Steps.{M, Out, Event, reached, made, done, refused
 use Rattle.walk.specs.Invent.{name-too-long, draw, invent-new-names-sexp, rename-in-cons-step}
 use Rattle.walk.specs.Patterns.{make-binding-unique, make-bindings-unique}
 use Rattle.walk.specs.Bodyforms.{each-body, call-tail, each-binding-body, Rules, args-then-in, rename-args-let, rename-args-desugared, rename-args-sequential, rename-assign-binding, rename-assign-bindings, rename-args-ordered, rename-args-assign, rename-args-bodyform, in-elements, rename-in-bodyform, body-rules, walk, deadlocked, visit, log-assign, logged, no-binding, rename-in-quoted, rename-in-value}
-use Rattle.walk.specs.Helperforms.{FormRules, each-helper, further-helpers, rename-args-helperform, rename-in-helperform, rename-args-compileform, rename-in-compileform, rename-children-compileform, form-rules, form-walk, whole-walk, children-walk, helper-walk}
 use Rattle.walk.proofs.Splits.{full-order, no-order, not-done, not-some, order-length, same-some, same-value, split}
 
 module _ (F : ℕ) where
@@ -79,11 +78,11 @@ module _ (F : ℕ) where
   fine-after log (done log′ a c x) g f = all-visits log log′ g f
   fine-after log (refused log′ r) g f = (all-visits log log′ (all-map (λ e d. d .good) g) (f .0), rw (visits-append log log′) (later (all-map (λ e d. d .order) g) (f .1)))
 
-  sound-ret : {A : Type 0} (a : A) → Sound (ret a)
+  pub sound-ret : {A : Type 0} (a : A) → Sound (ret a)
   unfolding ret
   sound-ret a = record { fine = λ c x. all-none }
 
-  sound-bind : {A B : Type 0} {m : M A} {k : A → M B} → Sound m → ((a : A) → Sound (k a)) → Sound (m >>= k)
+  pub sound-bind : {A B : Type 0} {m : M A} {k : A → M B} → Sound m → ((a : A) → Sound (k a)) → Sound (m >>= k)
   unfolding _>>=_
   sound-bind {A} {B} {m} {k} s t = record { fine = λ c x. go (m c x) (s .fine c x) }
     where
@@ -95,7 +94,7 @@ module _ (F : ℕ) where
   other : {r : Refusal} → 5 < r .number → (r .number ≡ 8 → ⊥) → All Good [] × Ends [] r
   other h z = (all-none, inr (record { all-ordered = all-none; late = h; not-8 = z }))
 
-  sound-out : {A : Type 0} → Sound {A = A} (refuse out-of-fuel)
+  pub sound-out : {A : Type 0} → Sound {A = A} (refuse out-of-fuel)
   unfolding refuse out-of-fuel
   sound-out = record { fine = λ c x. other (omega arith) (omega arith) }
 
@@ -120,7 +119,7 @@ module _ (F : ℕ) where
         go true = all-none
         go false = other (omega arith) (omega arith)
 
-    sound-step : {m : M A} → Sound m → Sound (step F size m)
+    pub sound-step : {m : M A} → Sound m → Sound (step F size m)
     unfolding step
     sound-step {m} s = record { fine = λ c x. go x (m c 0) (s .fine c 0) }
       where
@@ -128,11 +127,11 @@ module _ (F : ℕ) where
         go x (done log a c′ x′) f = fine-after log (fits F size a c′ x) f (fine-fits a c′ x)
         go x (refused log r) f = f
 
-    sound-child : {m : M A} → Sound m → Sound (child F size m)
+    pub sound-child : {m : M A} → Sound m → Sound (child F size m)
     unfolding child _>>_
     sound-child s = sound-bind s λ a. sound-bind (sound-add-to-sum (size a)) λ _. sound-ret a
 
-    sound-further : {f : A → M A} (old : A) → ((a : A) → Sound (f a)) → Sound (further F size old f)
+    pub sound-further : {f : A → M A} (old : A) → ((a : A) → Sound (f a)) → Sound (further F size old f)
     unfolding further _>>_
     sound-further old s = sound-bind (s old) λ a. sound-bind (sound-take-from-sum (size old)) λ _. sound-bind (sound-add-to-sum (size a)) λ _. sound-ret a
 
@@ -148,7 +147,7 @@ module _ (F : ℕ) where
   sound-either true s t = s
   sound-either false s t = t
 
-  sound-invent-new-names-sexp : (m : NameMap) (s : Sexp) → Sound (invent-new-names-sexp m s)
+  pub sound-invent-new-names-sexp : (m : NameMap) (s : Sexp) → Sound (invent-new-names-sexp m s)
   unfolding invent-new-names-sexp
   sound-invent-new-names-sexp m (SN l) = sound-ret m
   sound-invent-new-names-sexp m (SC l x y) = sound-bind (sound-invent-new-names-sexp m x) λ m′. sound-invent-new-names-sexp m′ y
@@ -156,7 +155,7 @@ module _ (F : ℕ) where
   sound-invent-new-names-sexp m (SQ l q n) = sound-ret m
   sound-invent-new-names-sexp m (SA l n) = sound-either (same n (ascii "@")) (sound-ret m) (sound-bind (sound-draw n) λ n′. sound-ret ((n, n′) ∷ m))
 
-  sound-rename-in-cons-step : (qq : Bool) (m : NameMap) (s : Sexp) → Sound (rename-in-cons-step F qq m s)
+  pub sound-rename-in-cons-step : (qq : Bool) (m : NameMap) (s : Sexp) → Sound (rename-in-cons-step F qq m s)
   unfolding rename-in-cons-step
   sound-rename-in-cons-step qq m s = sound-step _ (sound-ret _)
 
@@ -188,7 +187,7 @@ module _ (F : ℕ) where
     sound-each-binding-body (BB l nl p b ∷ bs) = sound-bind (sound-child _ (s b)) λ b′. sound-bind (sound-each-binding-body bs) λ bs′. sound-ret _
 
   module _ (r : Rules) (so : (b : Body) → Sound (r .args-bodyform b)) (si : (m : NameMap) (b : Body) → Sound (r .in-bodyform m b)) where
-    sound-args-then-in : (m : NameMap) (b : Body) → Sound (args-then-in F r m b)
+    pub sound-args-then-in : (m : NameMap) (b : Body) → Sound (args-then-in F r m b)
     unfolding args-then-in
     sound-args-then-in m b = sound-bind (sound-child _ (so b)) λ b′. sound-further _ b′ (si m)
 
@@ -353,86 +352,9 @@ module _ (F : ℕ) where
     sound-rename-in-bodyform m (BF l k ca c a b) =
         sound-bind (sound-child _ (s .in-bodyform m c)) λ c′. sound-bind (sound-child _ (sound-rename-in-cons-step false m ca)) λ ca′. sound-bind (sound-args-then-in _ (s .args-bodyform) (s .in-bodyform) m b) λ b′. sound-ret _
 
-  sound-walk : (fuel : ℕ) → fuel ≤ level-limit → SoundRules (walk F fuel)
+  pub sound-walk : (fuel : ℕ) → fuel ≤ level-limit → SoundRules (walk F fuel)
   unfolding walk body-rules
   sound-walk zero le = record { args-bodyform = λ b. sound-out; in-bodyform = λ m b. sound-out }
   sound-walk (suc fuel) le =
       let s = sound-walk fuel (omega arith) in
       record { args-bodyform = sound-args-step fuel le s; in-bodyform = λ m b. sound-step _ (sound-rename-in-bodyform fuel le s m b) }
-
-  module _ {f : Helper → M Helper} (s : (x : Helper) → Sound (f x)) where
-    sound-each-helper : (xs : Helpers) → Sound (each-helper F f xs)
-    unfolding each-helper
-    sound-each-helper []ʰ = sound-ret _
-    sound-each-helper (x ∷ʰ xs) = sound-bind (sound-child _ (s x)) λ x′. sound-bind (sound-each-helper xs) λ xs′. sound-ret _
-
-    sound-further-helpers : (xs : Helpers) → Sound (further-helpers F f xs)
-    unfolding further-helpers
-    sound-further-helpers []ʰ = sound-ret _
-    sound-further-helpers (x ∷ʰ xs) = sound-bind (sound-further _ x s) λ x′. sound-bind (sound-further-helpers xs) λ xs′. sound-ret _
-
-  pub record SoundForms (q : FormRules) : Type 0 where
-    pub args-helperform : (x : Helper) → Sound (q .args-helperform x)
-    pub in-helperform : (m : NameMap) (x : Helper) → Sound (q .in-helperform m x)
-    pub args-compileform : (f : Form) → Sound (q .args-compileform f)
-    pub in-compileform : (m : NameMap) (f : Form) → Sound (q .in-compileform m f)
-
-  module _ {r : Rules} {q : FormRules} (s : SoundRules r) (t : SoundForms q) where
-    sound-rename-args-helperform : (x : Helper) → Sound (rename-args-helperform F r q x)
-    unfolding rename-args-helperform
-    sound-rename-args-helperform (HC l n x b) = sound-bind (sound-child _ (s .args-bodyform b)) λ b′. sound-ret _
-    sound-rename-args-helperform (HM l n x a f) =
-        sound-bind (sound-invent-new-names-sexp [] a) λ m. sound-bind (sound-child _ (sound-rename-in-cons-step true m a)) λ a′. sound-bind (sound-child _ (t .args-compileform f)) λ f′.
-        sound-bind (sound-further _ f′ (t .in-compileform m)) λ f″. sound-ret _
-    sound-rename-args-helperform (HD l i n x a b) =
-        sound-bind (sound-invent-new-names-sexp [] a) λ m. sound-bind (sound-child _ (sound-rename-in-cons-step true m a)) λ a′. sound-bind (sound-args-then-in r (s .args-bodyform) (s .in-bodyform) m b) λ b′. sound-ret _
-    sound-rename-args-helperform (HN l n x hs) = sound-bind (sound-each-helper (t .args-helperform) hs) λ hs′. sound-ret _
-    sound-rename-args-helperform (HR l n x) = sound-ret _
-
-    sound-rename-in-helperform : (m : NameMap) (x : Helper) → Sound (rename-in-helperform F r q m x)
-    unfolding rename-in-helperform
-    sound-rename-in-helperform m (HC l n x b) = sound-bind (sound-child _ (s .in-bodyform m b)) λ b′. sound-ret _
-    sound-rename-in-helperform m (HM l n x a f) = sound-bind (sound-child _ (t .in-compileform m f)) λ f′. sound-ret _
-    sound-rename-in-helperform m (HD l i n x a b) = sound-bind (sound-child _ (s .in-bodyform m b)) λ b′. sound-ret _
-    sound-rename-in-helperform m (HN l n x hs) = sound-ret _
-    sound-rename-in-helperform m (HR l n x) = sound-ret _
-
-    sound-rename-args-compileform : (f : Form) → Sound (rename-args-compileform F r q f)
-    unfolding rename-args-compileform
-    sound-rename-args-compileform (CF l x a hs b) =
-        sound-bind (sound-invent-new-names-sexp [] a) λ m. sound-bind (sound-child _ (sound-rename-in-cons-step true m a)) λ a′. sound-bind (sound-each-helper (t .args-helperform) hs) λ hs′.
-        sound-bind (sound-child _ (s .args-bodyform b)) λ b′. sound-bind (sound-further-helpers (t .in-helperform m) hs′) λ hs″. sound-bind (sound-further _ b′ (s .in-bodyform m)) λ b″. sound-ret _
-
-    sound-rename-in-compileform : (m : NameMap) (f : Form) → Sound (rename-in-compileform F r q m f)
-    unfolding rename-in-compileform
-    sound-rename-in-compileform m (CF l x a hs b) = sound-bind (sound-each-helper (t .in-helperform m) hs) λ hs′. sound-bind (sound-child _ (s .in-bodyform m b)) λ b′. sound-ret _
-
-    sound-rename-children-compileform : (f : Form) → Sound (rename-children-compileform F r q f)
-    unfolding rename-children-compileform
-    sound-rename-children-compileform (CF l x a hs b) = sound-bind (sound-each-helper (t .args-helperform) hs) λ hs′. sound-bind (sound-child _ (s .args-bodyform b)) λ b′. sound-ret _
-
-  sound-form-walk : (fuel : ℕ) → fuel ≤ level-limit → SoundForms (form-walk F fuel)
-  unfolding form-walk form-rules
-  sound-form-walk zero le = record { args-helperform = λ x. sound-out; in-helperform = λ m x. sound-out; args-compileform = λ f. sound-out; in-compileform = λ m f. sound-out }
-  sound-form-walk (suc fuel) le =
-      let s = sound-walk fuel (omega arith) in
-      let t = sound-form-walk fuel (omega arith) in
-      record {
-        args-helperform = λ x. sound-step _ (sound-rename-args-helperform s t x);
-        in-helperform = λ m x. sound-step _ (sound-rename-in-helperform s t m x);
-        args-compileform = λ f. sound-step _ (sound-rename-args-compileform s t f);
-        in-compileform = λ m f. sound-step _ (sound-rename-in-compileform s t m f);
-      }
-
-  -- the claim, for the walk of each call
-  pub whole-sound : (f : Form) → Sound (whole-walk F f)
-  unfolding whole-walk
-  whole-sound f = sound-form-walk level-limit (omega arith) .args-compileform f
-
-  pub children-sound : (f : Form) → Sound (children-walk F f)
-  unfolding children-walk
-  children-sound f = sound-step _ (sound-rename-children-compileform (sound-walk (level-limit - 1) (omega arith)) (sound-form-walk (level-limit - 1) (omega arith)) f)
-
-  pub helper-sound : (x : Helper) → Sound (helper-walk F x)
-  unfolding helper-walk
-  helper-sound x = sound-form-walk level-limit (omega arith) .args-helperform x
