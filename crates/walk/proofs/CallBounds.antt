@@ -36,7 +36,7 @@ unfolding dbl
 most-draws = refl
 
 -- a call from the counter c, the assigns that it reaches, and its answer: no number above 8, and no counter that passes 64 bits
-pub record CallRuns (c : ℕ) (list : List Visit) (r : Result) : Type 0 where
+pub record CallBounded (c : ℕ) (list : List Visit) (r : Result) : Type 0 where
   pub number : r .0 .refusal .number ≤ 8
   pub counter : r .0 .counter ≤ c + most
   pub inside : (e : Visit) → e is-in list → e .counter ≤ c + most
@@ -56,12 +56,12 @@ module _ {A : Type 0} (reader : Reader A) (walk-of : ℕ → A → M A) (bytes :
       let f = rw w at (bounded F work c input a q) in
       f .1
 
-  call-runs : (F work c : ℕ) (input buffer : Bytes) → let o = call-run reader walk-of F work c input in CallRuns c (visits (events o)) (answered bytes c buffer o)
+  call-runs : (F work c : ℕ) (input buffer : Bytes) → let o = call-run reader walk-of F work c input in CallBounded c (visits (events o)) (answered bytes c buffer o)
   unfolding call-run answered refused-answer delivered
   call-runs F work c input buffer = go (open-input reader F work c input) (start reader F work c input)
     where
       delivers : {list : List Visit} (b : Bytes) (c′ : ℕ) → All (Below (c + most)) list → c′ ≤ c + most → (t : Bool)
-          → CallRuns c list (elim t as (λ _. Result) [ true ↦ (accepted-answer c′ 0 (length b), written b buffer) | false ↦ refused-answer c buffer (placeless 8) ])
+          → CallBounded c list (elim t as (λ _. Result) [ true ↦ (accepted-answer c′ 0 (length b), written b buffer) | false ↦ refused-answer c buffer (placeless 8) ])
       delivers b c′ g h true = record { number = omega arith; counter = h; inside = λ e m. all-in g m }
       delivers b c′ g h false = record { number = omega arith; counter = omega arith; inside = λ e m. all-in g m }
 
@@ -70,27 +70,27 @@ module _ {A : Type 0} (reader : Reader A) (walk-of : ℕ → A → M A) (bytes :
       small (inr (inl e)) = omega arith
       small (inr (inr e)) = omega arith
 
-      walked : (n : ℕ) (P : A → Type 0) → dbl level-limit n ≤ most → (o : Out A) → Fine (dbl level-limit n) P c o → CallRuns c (visits (events o)) (answered bytes c buffer o)
+      walked : (n : ℕ) (P : A → Type 0) → dbl level-limit n ≤ most → (o : Out A) → Fine (dbl level-limit n) P c o → CallBounded c (visits (events o)) (answered bytes c buffer o)
       walked n P l (done log b c′ h) f = delivers (bytes b) c′ (all-map (λ e q. omega arith) (f .0)) (omega (arith, f .1)) (leb (length (bytes b)) (length buffer))
       walked n P l (refused log r) f = record { number = small (f .1); counter = omega arith; inside = λ e m. omega (arith, all-in (f .0) m) }
 
       go : (o : Opened A) → Start reader F work c input o
-          → let w : Out A = elim o [ closed r ↦ refused [] r | opened a ↦ walk-of F a c 0 ] in CallRuns c (visits (events w)) (answered bytes c buffer w)
+          → let w : Out A = elim o [ closed r ↦ refused [] r | opened a ↦ walk-of F a c 0 ] in CallBounded c (visits (events w)) (answered bytes c buffer w)
       go (closed r) q = record { number = omega arith; counter = omega arith; inside = λ e m. absurd (List·Memᴰ·not-nil m) }
       go (opened a) q =
           let h : count a ≤ most-longest = omega (arith, few a, ap length (back input a none (q .read))) in
           walked (count a) _ (omega (arith, most-draws, dbl-mono level-limit (count a) most-longest h)) (walk-of F a c 0) (bounded F work c input a q)
 
 module _ (F work c : ℕ) (input buffer : Bytes) where
-  pub whole-call-runs : CallRuns c (whole-visits F work c input) (whole-call F work c input buffer)
+  pub whole-call-runs : CallBounded c (whole-visits F work c input) (whole-call F work c input buffer)
   unfolding whole-call whole-visits whole-run
   whole-call-runs = call-runs _ whole-walk form-bytes form-depth form-atoms form-deep form-read-back few-form whole-runs F work c input buffer
 
-  pub children-call-runs : CallRuns c (children-visits F work c input) (children-call F work c input buffer)
+  pub children-call-runs : CallBounded c (children-visits F work c input) (children-call F work c input buffer)
   unfolding children-call children-visits children-run
   children-call-runs = call-runs _ children-walk form-bytes form-depth form-atoms form-deep form-read-back few-form children-runs F work c input buffer
 
-  pub helper-call-runs : CallRuns c (helper-visits F work c input) (helper-call F work c input buffer)
+  pub helper-call-runs : CallBounded c (helper-visits F work c input) (helper-call F work c input buffer)
   unfolding helper-call helper-visits helper-run
   helper-call-runs = call-runs _ helper-walk helper-bytes helper-depth helper-atoms helper-deep helper-read-back few-helper helper-runs F work c input buffer
 
