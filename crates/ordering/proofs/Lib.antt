@@ -15,6 +15,7 @@ mod Patterns
 mod Provided
 pub mod Rounds
 mod Rows
+pub mod Scope
 mod Search
 mod Several
 mod Sexps

@@ -1,6 +1,7 @@
 pub mod Items
 pub mod Toposort
 pub mod Lawful
+pub mod Scope
 pub mod Words
 pub mod OrderCall
 pub mod Needs

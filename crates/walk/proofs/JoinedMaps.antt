@@ -1,13 +1,15 @@
--- Joined maps: names drawn onto a map are those drawn onto none, joined before it; and in memory the newer of two joined maps is the map of what stands
--- below the older one. Assumes nothing.
+-- Joined maps: names drawn onto a map are those drawn onto none, joined before it; in memory the newer of two joined maps is the map of what stands below the
+-- older one; and of several that are joined, the last that has an entry of a name prevails. Assumes nothing.
 use mathlib.Core.Path.{_≡_, refl, sym, ap, _∙_}
 use mathlib.Core.Bool.{Bool, true, false}
-use mathlib.Core.List.{List, [], _∷_, _++_, append-assoc}
+use mathlib.Core.List.{List, [], _∷_, _++_, append-assoc, flatten, reverse, reverseAux}
+use mathlib.Core.Option.{Option, none, some}
+use native.Mathlib.Nat.{not-suc-le-zero, le-of-suc-le-suc}
 use native.Mathlib.Omega.{arith}
-use Prim.Native.Nat.{ℕ, _+_, _-_}
-use lib.ListN.{length, take, drop, length-append, length-drop}
+use Prim.Native.Nat.{ℕ, zero, suc, _+_, _-_, _<_}
+use lib.ListN.{length, getD, take, drop, length-append, length-drop}
 use lib.Seq.{length-take-le, take-append-seam}
-use Rattle.names.specs.Maps.{NameMap, map-bytes, Limited}
+use Rattle.names.specs.Maps.{NameMap, lookup, renamed, map-bytes, Limited}
 use Rattle.names.specs.Names.{Bytes, ascii, same, name-field}
 use Rattle.names.proofs.Places.{take-drop}
 use Rattle.records.specs.Records.{Sexp, SN, SC, SI, SQ, SA}
@@ -88,3 +90,46 @@ newer-map {mem} {len} a b w =
           ∙ ap (take na) e ∙ take-append-seam (map-bytes a) (map-bytes b);
       limited = newer-limited a b (w .limited);
     }
+
+-- the first of two, where it is there
+abbrev or-else : Option Bytes → Option Bytes → Option Bytes
+or-else none o = o
+or-else (some v) o = some v
+
+module _ (n : Bytes) where
+  -- of two joined maps, the first prevails
+  lookup-joined : (a b : NameMap) → lookup (a ++ b) n ≡ or-else (lookup a n) (lookup b n)
+  unfolding lookup
+  lookup-joined [] b = refl
+  lookup-joined (e ∷ a) b = go (same n (e .0)) (lookup-joined a b)
+    where
+      hit : Bool → Option Bytes → Option Bytes
+      hit t o = elim t as (λ _. Option Bytes) [ true ↦ some (e .1) | false ↦ o ]
+
+      go : (t : Bool) → lookup (a ++ b) n ≡ or-else (lookup a n) (lookup b n) → hit t (lookup (a ++ b) n) ≡ or-else (hit t (lookup a n)) (lookup b n)
+      go true h = refl
+      go false h = h
+
+  -- of several, the last first, before older ones: none has an entry, or the last that has one prevails
+  joined-none : (ms older : List NameMap) → ((j : ℕ) → j < length ms → lookup (getD ms j []) n ≡ none)
+      → lookup (flatten (reverseAux ms older)) n ≡ lookup (flatten older) n
+  unfolding flatten
+  joined-none [] older h = refl
+  joined-none (m ∷ ms) older h = joined-none ms (m ∷ older) (λ j lt. h (suc j) (omega arith)) ∙ lookup-joined m (flatten older) ∙ rw (h 0 (omega arith))
+
+  joined-last : (ms older : List NameMap) (i : ℕ) {v : Bytes} → i < length ms → lookup (getD ms i []) n ≡ some v
+      → ((j : ℕ) → i < j → j < length ms → lookup (getD ms j []) n ≡ none) → lookup (flatten (reverseAux ms older)) n ≡ some v
+  unfolding flatten
+  joined-last [] older i lt e h = absurd (not-suc-le-zero lt)
+  joined-last (m ∷ ms) older zero lt e h = joined-none ms (m ∷ older) (λ j q. h (suc j) (omega arith) (omega arith)) ∙ lookup-joined m (flatten older) ∙ rw e
+  joined-last (m ∷ ms) older (suc i) lt e h = joined-last ms (m ∷ older) i (le-of-suc-le-suc lt) e (λ j p q. h (suc j) (omega arith) (omega arith))
+
+  -- so a name becomes what the last makes of it that has an entry of it, and stays where none has
+  pub renamed-last : (ms : List NameMap) (i : ℕ) {v : Bytes} → i < length ms → lookup (getD ms i []) n ≡ some v
+      → ((j : ℕ) → i < j → j < length ms → lookup (getD ms j []) n ≡ none) → renamed (flatten (reverse ms)) n ≡ v
+  unfolding renamed
+  renamed-last ms i lt e h = rw (joined-last ms [] i lt e h, renamed)
+
+  pub renamed-none : (ms : List NameMap) → ((j : ℕ) → j < length ms → lookup (getD ms j []) n ≡ none) → renamed (flatten (reverse ms)) n ≡ n
+  unfolding renamed flatten lookup
+  renamed-none ms h = rw (joined-none ms [] h, renamed)

@@ -29,6 +29,8 @@ pub mod Limits
 pub mod LimitsOfForms
 pub mod CallBounds
 pub mod Sequential
+pub mod Seen
+pub mod ParallelScope
 pub mod Kept
 pub mod Keeping
 pub mod Again

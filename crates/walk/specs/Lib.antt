@@ -7,6 +7,7 @@ pub mod DrawnMaps
 pub mod Plans
 pub mod Patterns
 pub mod Bodyforms
+pub mod Seen
 pub mod Helperforms
 pub mod Calls
 pub mod Assigns
