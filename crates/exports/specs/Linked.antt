@@ -1,8 +1,10 @@
 -- What a linked function answers, as numbers.
 -- Assumes nothing.
 use mathlib.Core.List.{List}
+use mathlib.Core.Path.{_≡_}
 use Prim.Native.Nat.{ℕ, zero, suc, _*_}
-use lib.ListN.{getD}
+use lib.ListN.{length, getD}
+use Rattle.names.specs.CallAnswer.{Result}
 use Rattle.names.specs.Names.{Bytes}
 use Rattle.names.specs.Refusals.{place-at, refusing, placeless, no-refusal}
 use Rattle.names.specs.declared.Answer.{Answer}
@@ -22,6 +24,14 @@ answer-told n p c rounds len = record { refusal = refusing n (place-at p); count
 -- an answer by the number returned and the four that are told: place, counter, rounds, length
 abbrev pub answer-in : ℕ → List ℕ → Answer
 answer-in n told = answer-told n (getD told 0 0) (getD told 1 0) (getD told 2 0) (getD told 3 0)
+
+-- the refusal that is told
+abbrev pub refusal-in : ℕ → List ℕ → Refusal
+refusal-in n told = answer-in n told .refusal
+
+-- a linked function hands a call on: what it tells, and the result buffer as it leaves it, are the result of the call on what it is given
+abbrev pub Hands : (ℕ → ℕ → ℕ → Bytes → Bytes → Result) → ℕ → Bytes → ℕ → Bytes → Bytes → ℕ → List ℕ → Bytes → Type 0
+Hands call f work counter input before n told after = (answer-in n told, after) ≡ call f (length work) counter input before
 
 -- the refusal of an input, or none
 abbrev pub refusal-of : Opening → Refusal

@@ -3,6 +3,7 @@
 use mathlib.Core.Logic.{_⊎_}
 use mathlib.Core.Path.{_≡_}
 use Prim.Native.Nat.{ℕ, _+_, _≤_}
+use denote.Ref.{RefT}
 use lib.ListN.{length, take, drop}
 use Rattle.names.specs.Names.{Bytes}
 
@@ -10,6 +11,11 @@ use Rattle.names.specs.Names.{Bytes}
 pub record At (xs : Bytes) (p : ℕ) (bs : Bytes) : Type 0 where
   pub fits : p + length bs ≤ length xs
   pub there : take (length bs) (drop p xs) ≡ bs
+
+-- the slice r is the part of the slice s that stands at p, and no copy of it: it points into s
+pub record PartOf (s : RefT Bytes) (p : ℕ) (r : RefT Bytes) : Type 0 where
+  pub points : r .ptr ≡ (s .ptr .0, p + s .ptr .1)
+  pub there : At (s .now) p (r .now)
 
 -- ys is xs but for what stands from lo up to hi
 pub record SameOutside (xs ys : Bytes) (lo hi : ℕ) : Type 0 where

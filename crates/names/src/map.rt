@@ -5,7 +5,7 @@ use crate::bytes::same;
 ghost use mathlib.Core.Path.{_≡_};
 ghost use Prim.Native.Nat.{_≤_};
 ghost use lib.ListN.{length};
-ghost use Rattle.names.specs.Maps.{NameMap, map-bytes, renamed, MapOf};
+ghost use Rattle.names.specs.Maps.{NameMap, renamed, Origin, map-bytes, MapOf};
 ghost use Rattle.names.specs.Names.{name-limit};
 
 // What a map makes of a name: a part of the map, by the first entry of the name, which is the
@@ -14,6 +14,7 @@ pub fn lookup<'a>(name: &'a [u8], map: &'a [u8]) -> &'a [u8]
     requires { ⌜ ((m : NameMap) × MapOf (now map) m) ⌝ }
     ensures { λ r. ⌜ ((m : NameMap) → now (map .entry) ≡ map-bytes m → now r ≡ renamed m (now (name .entry))) ⌝ }
     ensures { λ r. ⌜ (length (now (name .entry)) ≤ name-limit → length (now r) ≤ name-limit) ⌝ }
+    ensures { λ r. ⌜ ((m : NameMap) → now (map .entry) ≡ map-bytes m → Origin m (name .entry) (map .entry) r) ⌝ }
 {
     let mut at = 0;
     while at < map.len() {

@@ -118,13 +118,16 @@ pub record Taken (F work c : ℕ) (input buffer : Bytes) (k : Kind) (l : Loc) (w
   pub let-there : Let input k l w h bs b
   pub is : order-call F work c input buffer ≡ order-of c buffer (BL k l w h bs b)
 
+abbrev pub TakenSome : ℕ → ℕ → ℕ → Bytes → Bytes → Type 0
+TakenSome F work c input buffer = (k : Kind) × (l : Loc) × (w : Bytes) × (h : Bytes) × (bs : Bindings) × (b : Body) × Taken F work c input buffer k l w h bs b
+
 pub call-taken : (F work c : ℕ) (input buffer : Bytes) → AreBytes input → Accepted ≡ opening-of (open-input assign-of F work c input)
-    → (k : Kind) × (l : Loc) × (w : Bytes) × (h : Bytes) × (bs : Bindings) × (b : Body) × Taken F work c input buffer k l w h bs b
+    → TakenSome F work c input buffer
 unfolding order-call IsLet
 call-taken F work c input buffer ok e = go (open-input assign-of F work c input) refl e
   where
     go₂ : (a : Body) → open-input assign-of F work c input ≡ opened a → ValidAssign a × (input ≡ body-bytes a) → length input ≤ most-longest
-        → (k : Kind) × (l : Loc) × (w : Bytes) × (h : Bytes) × (bs : Bindings) × (b : Body) × Taken F work c input buffer k l w h bs b
+        → TakenSome F work c input buffer
     go₂ (BL k l w h bs b) q (v, i) le = (k, l, w, h, bs, b, record { size = le; let-there = record { valid = v .1; there = rw (← i) (at-whole input) }; is = rw (q, order-call) refl })
     go₂ (BQ s) q (v, i) le = absurd (v .0)
     go₂ (BV s) q (v, i) le = absurd (v .0)
@@ -132,7 +135,7 @@ call-taken F work c input buffer ok e = go (open-input assign-of F work c input)
     go₂ (BM l f) q (v, i) le = absurd (v .0)
     go₂ (BF l w ca d a b) q (v, i) le = absurd (v .0)
 
-    go : (o : Opened Body) → open-input assign-of F work c input ≡ o → Accepted ≡ opening-of o → (k : Kind) × (l : Loc) × (w : Bytes) × (h : Bytes) × (bs : Bindings) × (b : Body) × Taken F work c input buffer k l w h bs b
+    go : (o : Opened Body) → open-input assign-of F work c input ≡ o → Accepted ≡ opening-of o → TakenSome F work c input buffer
     go (opened a) q z =
         let u = opened-valid assign-format F work c input a ok q in
         let st : OpenedFrom assign-of F c input a = rw q at (start assign-of F work c input) in

@@ -14,7 +14,7 @@ use lib.Seq.{take-all, getD-take, getD-drop}
 use borrow.Author.Tests.{le-ltb}
 use Rattle.ordering.specs.Items.{Item}
 use Rattle.ordering.specs.Toposort.{Row, start, picked, turn, is-empty, Toposorted, ordered, deadlock, turns, toposort}
-use Rattle.ordering.specs.Lawful.{_is-in_, OfSome, Lawful, Full, Stuck}
+use Rattle.ordering.specs.Lawful.{_is-in_, OfSome, Lawful, Full, Stuck, NoOrder}
 use Rattle.ordering.specs.Needs.{Means}
 use Rattle.ordering.proofs.Lists.{by-cond, in-at, at-in, at-in-take, in-take-at, at-in-drop, in-drop-at}
 use Rattle.ordering.proofs.Tests.{true-ready}
@@ -181,14 +181,18 @@ module _ (bs : List Item) where
   pub stuck-once : (l : List ℕ) → toposort bs ≡ deadlock l → OfSome (length bs) l
   stuck-once l e = let left′ : Left l = rw e at owed in left′ .some
 
-  -- the outcome means what it says
+  -- so a deadlock means what it says
+  pub no-order : (l : List ℕ) → toposort bs ≡ deadlock l → NoOrder bs l
+  no-order l e = record { none = complete l e; stuck = stuck l e; once = stuck-once l e }
+
+  -- and so does an outcome
   pub means : Means bs (toposort bs)
   unfolding Means
   means = go (toposort bs) refl
     where
       go : (a : Toposorted) → toposort bs ≡ a → Means bs a
       go (ordered o) e = sound o e
-      go (deadlock l) e = (complete l e, stuck l e, stuck-once l e)
+      go (deadlock l) e = no-order l e
 
   -- an order is found exactly where a lawful one is
   pub found : ((o : List ℕ) × (toposort bs ≡ ordered o)) ↔ ((o : List ℕ) × Full bs o)

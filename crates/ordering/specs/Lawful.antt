@@ -2,6 +2,7 @@
 -- Assumes nothing.
 use Prim.Native.Nat.{ℕ, _<_}
 use mathlib.Core.Path.{_≡_}
+use mathlib.Core.Logic.{_↔_}
 use mathlib.Core.List.{List, List·Memᴰ}
 use lib.ListN.{length, getD, take}
 use Rattle.names.specs.Names.{Bytes}
@@ -45,3 +46,9 @@ pub record Full (bs : List Item) (o : List ℕ) : Type 0 where
 pub record Stuck (bs : List Item) (i : ℕ) : Type 0 where
   pub index : i < length bs
   pub in-none : (o : List ℕ) → OfSome (length bs) o → Lawful bs o → ¬ (i is-in o)
+
+-- the bindings have no lawful order of all of them, and l has just the stuck ones, each once
+pub record NoOrder (bs : List Item) (l : List ℕ) : Type 0 where
+  pub none : (o : List ℕ) → ¬ Full bs o
+  pub stuck : (i : ℕ) → (i is-in l) ↔ Stuck bs i
+  pub once : OfSome (length bs) l

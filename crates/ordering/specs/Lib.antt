@@ -4,6 +4,7 @@ pub mod Lawful
 pub mod Scope
 pub mod Words
 pub mod OrderCall
+pub mod OrderMeans
 pub mod Needs
 pub mod Provisions
 pub mod Listing

@@ -7,14 +7,14 @@ use Prim.Native.Nat.{ℕ, _+_, _≤_}
 use lib.ListN.{length}
 use Rattle.names.specs.Names.{Bytes}
 use Rattle.names.specs.Segments.{At}
-use Rattle.records.specs.Records.{Body, BL, BQ, BV, BC, BM, BF, body-bytes, Binding}
-use Rattle.records.specs.Valid.{ValidBody}
+use Rattle.records.specs.Records.{Sexp, sexp-bytes, Body, BL, BQ, BV, BC, BM, BF, body-bytes, Binding}
+use Rattle.records.specs.Valid.{SexpFields, ValidBody}
 use Rattle.records.specs.declared.Family.the-variants.{Body as a-body, Binding as a-binding}
-use Rattle.records.specs.Parts.{Part, family-part}
+use Rattle.records.specs.Parts.{Part, family-part, fields-part, pattern-part, list-part}
 use Rattle.ordering.specs.declared.Listed.{Listed}
 use Rattle.ordering.specs.Needs.{needs-of}
 use Rattle.ordering.specs.Provisions.{Provisions, Added}
-use Rattle.ordering.specs.Words.{words, binding-words, items}
+use Rattle.ordering.specs.Words.{make-provides-set, pattern-provides, captured, words, binding-words, items}
 
 -- of names, those that are needed were listed, if there was room for them
 pub record Names (xs : List Bytes) (a : Bytes) (given : List ℕ) (before after : List ℕ) (n count : ℕ) : Type 0 where
@@ -60,3 +60,29 @@ member-words false = words
 abbrev pub all-words : {A : Type 0} → (A → List Bytes) → List A → List Bytes
 all-words f [] = []
 all-words f (t ∷ ts) = f t ++ all-words f ts
+
+-- the names of the S record, or of the body, that stands at a place were listed
+abbrev pub ListsSexp : Bytes → List ℕ → Bytes → ℕ → List ℕ → List ℕ → ℕ → Listed → Type 0
+ListsSexp = Lists fields-part make-provides-set
+
+abbrev pub ListsBody : Bytes → List ℕ → Bytes → ℕ → List ℕ → List ℕ → ℕ → Listed → Type 0
+ListsBody = Lists (family-part a-body) words
+
+-- those of a body of one mark, and of a pattern
+abbrev pub ReachesKind : ℕ → Bytes → List ℕ → Bytes → ℕ → List ℕ → List ℕ → ℕ → Listed → Type 0
+ReachesKind i = Reaches 0 (kind-part i) words
+
+abbrev pub ReachesPattern : Bytes → List ℕ → Bytes → ℕ → List ℕ → List ℕ → ℕ → Listed → Type 0
+ReachesPattern = Reaches 0 pattern-part pattern-provides
+
+-- those of a binding or a body, and of so many of them behind what is listed so far
+abbrev pub ReachesMember : ℕ → Bool → Bytes → List ℕ → Bytes → ℕ → List ℕ → List ℕ → ℕ → Listed → Type 0
+ReachesMember first b = Reaches first (member-part b) (member-words b)
+
+abbrev pub ReachesMembers : Bool → ℕ → Bytes → List ℕ → Bytes → Listed → List ℕ → List ℕ → Listed → Type 0
+ReachesMembers b count a given s from before after =
+    Reaches 1 (list-part (member-part b) count) (all-words (member-words b)) a given s (from .end) before after (from .count)
+
+-- those that `to_sexp` writes of capture args that stand at a place
+abbrev pub ListsCaptured : Bytes → List ℕ → Bytes → ℕ → List ℕ → List ℕ → ℕ → ℕ → Type 0
+ListsCaptured a given s at before after n count = (t : Sexp) → SexpFields t → At s at (sexp-bytes t) → Names (captured t) a given before after n count

@@ -2,7 +2,6 @@
 -- Assumes nothing.
 use mathlib.Core.Bool.{Bool, true, false, cond}
 use mathlib.Core.List.{List, [], _∷_, foldl, map}
-use mathlib.Core.Logic.{_↔_}
 use mathlib.Core.Path.{_≡_}
 use Prim.Native.Nat.{ℕ, suc, _+_, _*_, _≤_, _<_}
 use lib.Dec.{ltb}
@@ -11,8 +10,9 @@ use Rattle.names.specs.Names.{Bytes}
 use Rattle.names.specs.Segments.{At}
 use Rattle.records.specs.Limits.{count-limit}
 use Rattle.ordering.specs.Items.{Item, any, keep, gives, needed}
-use Rattle.ordering.specs.Lawful.{_is-in_, OfSome, Full, Stuck}
-use Rattle.ordering.specs.Toposort.{Toposorted, ordered, deadlock}
+use Rattle.ordering.specs.Lawful.{Full, NoOrder}
+use Rattle.ordering.specs.Toposort.{turn, Toposorted, ordered, deadlock, toposort, rounds}
+use Rattle.ordering.specs.declared.Sorted.{Sorted}
 
 -- the most bindings of an assign
 abbrev pub binding-limit : ℕ
@@ -53,11 +53,25 @@ pub record TurnStart (bs : List Item) (needs starts row : List ℕ) (placed done
   pub at : NeedsAt bs needs starts
   pub marked : done ≡ bits (marks (length row) (take placed row))
 
+-- every index of a row is below its length
+abbrev pub IndicesBelow : List ℕ → Type 0
+IndicesBelow row = (k : ℕ) → k < length row → getD row k 0 < length row
+
+-- a turn on every list of bindings that it can start from leaves this row, and so many placed
+abbrev pub TakesTurn : List ℕ → List ℕ → List ℕ → ℕ → ℕ → List ℕ → ℕ → Type 0
+TakesTurn needs starts row placed done after left = (bs : List Item) → TurnStart bs needs starts row placed done
+    → turn bs (record { row = row; placed = placed }) ≡ record { row = after; placed = left }
+
 -- what a row says of which so many are placed
 unfoldable pub outcome-of : List ℕ → ℕ → Toposorted
 outcome-of row placed = cond (ltb placed (length row)) (deadlock (drop placed row)) (ordered row)
 
+-- so a row is the outcome, and the turns are its rounds, of every list of n bindings with these needs
+abbrev pub SortsItems : ℕ → List ℕ → List ℕ → List ℕ → Sorted → Type 0
+SortsItems n needs starts row r = (bs : List Item) → length bs ≡ n → NeedsAt bs needs starts
+    → (toposort bs ≡ outcome-of row (r .placed)) × (r .rounds ≡ rounds bs)
+
 -- what an outcome means: a full lawful order; or none, and just the stuck ones, each once
 unfoldable pub Means : List Item → Toposorted → Type 0
 Means bs (ordered o) = Full bs o
-Means bs (deadlock l) = ((o : List ℕ) → ¬ Full bs o) × ((i : ℕ) → (i is-in l) ↔ Stuck bs i) × OfSome (length bs) l
+Means bs (deadlock l) = NoOrder bs l

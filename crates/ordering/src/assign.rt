@@ -15,22 +15,17 @@ use records::past::past_head;
 use records::skip::past_record;
 ghost use mathlib.Core.List.{List};
 ghost use mathlib.Core.Path.{_≡_};
-ghost use Prim.Native.Nat.{_+_, _≤_, _<_};
+ghost use Prim.Native.Nat.{_≤_, _<_};
 ghost use lib.ListN.{length};
-ghost use Rattle.names.specs.Names.{Bytes};
-ghost use Rattle.names.specs.Segments.{At};
 ghost use Rattle.records.specs.Limits.{most-longest};
-ghost use Rattle.records.specs.Records.{Loc, Kind, Pattern, Body, Binding, BB, binding-bytes, Bindings, list-of};
-ghost use Rattle.records.specs.Parts.{ValidBinding};
-ghost use Rattle.ordering.specs.Assign.{need-limit, Bound, BindingNames, FindsNames, Collectable, Let, OrdersBindings};
-ghost use Rattle.ordering.specs.Needs.{binding-limit, NeedsAt, Starts, outcome-of};
-ghost use Rattle.ordering.specs.Toposort.{rounds};
-ghost use Rattle.ordering.specs.Words.{pattern-provides, items, toposort-assign-bindings};
+ghost use Rattle.records.specs.Records.{Binding};
+ghost use Rattle.ordering.specs.Assign.{need-limit, Bound, ListsBinding, FindsAllNames, Collectable, FindsNeeds, SortsBindings, SomeLet, OrdersLet};
+ghost use Rattle.ordering.specs.Needs.{binding-limit, Starts};
 
 // Lists what the binding at a place provides, behind a 0, and answers where its body starts.
 fn binding_names(s: &[u8], at: usize, given: &mut [usize], n: usize) -> Listed
     requires { ⌜ (at ≤ length (now s)) × (length (now s) ≤ most-longest) × (n < length (now given)) ⌝ }
-    ensures { λ r. ⌜ ((l nl : Loc) (p : Pattern) (b : Body) → ValidBinding (BB l nl p b) → At (now (s .entry)) at (binding-bytes (BB l nl p b)) → n + 1 + length (pattern-provides p) ≤ length (now (given .entry)) → BindingNames (now (s .entry)) (now (given .entry)) (now (given .exit)) n r p b (at + length (binding-bytes (BB l nl p b)))) ⌝ }
+    ensures { λ r. ⌜ ListsBinding (now (s .entry)) at (now (given .entry)) (now (given .exit)) n r ⌝ }
 {
     given[n] = 0;
     let head = at + past_head(&s[at..]);
@@ -43,7 +38,7 @@ fn binding_names(s: &[u8], at: usize, given: &mut [usize], n: usize) -> Listed
 pub fn find_names(s: &[u8], first: usize, given: &mut [usize], bodies: &mut [usize]) -> usize
     requires { ⌜ (length (now s) ≤ most-longest) × (length (now given) ≡ need-limit) ⌝ }
     requires { ⌜ ((bs : List Binding) × Bound (now s) first (length (now bodies)) bs) ⌝ }
-    ensures { λ r. ⌜ ((bs : List Binding) → Bound (now (s .entry)) first (length (now (bodies .entry))) bs → FindsNames (now (s .entry)) (now (given .exit)) (now (bodies .exit)) r bs) ⌝ }
+    ensures { λ r. ⌜ FindsAllNames (now (s .entry)) first (length (now (bodies .entry))) (now (given .exit)) (now (bodies .exit)) r ⌝ }
 {
     let mut at = first;
     let mut n = 0;
@@ -64,7 +59,7 @@ fn find_needs(s: &[u8], given: &[usize], bodies: &[usize], needs: &mut [u64], st
     requires { ⌜ (length (now bodies) ≤ binding-limit) × (length (now bodies) < length (now starts)) ⌝ }
     requires { ⌜ ((bs : List Binding) × Collectable (now s) (now given) (now bodies) (length (now needs)) bs) ⌝ }
     ensures { λ _. ⌜ Starts (length (now (bodies .entry))) (now (needs .exit)) (now (starts .exit)) ⌝ }
-    ensures { λ _. ⌜ ((bs : List Binding) → Collectable (now (s .entry)) (now (given .entry)) (now (bodies .entry)) (length (now (needs .entry))) bs → NeedsAt (items bs) (now (needs .exit)) (now (starts .exit))) ⌝ }
+    ensures { λ _. ⌜ FindsNeeds (now (s .entry)) (now (given .entry)) (now (bodies .entry)) (now (needs .entry)) (now (needs .exit)) (now (starts .exit)) ⌝ }
 {
     let mut n = 0;
     let mut j = 0;
@@ -92,7 +87,7 @@ fn order_bindings(
     requires { ⌜ (length (now bodies) ≡ length (now row)) × (length (now row) ≤ binding-limit) × (length (now row) < length (now starts)) ⌝ }
     requires { ⌜ ((bs : List Binding) × Bound (now s) first (length (now row)) bs) ⌝ }
     ensures { λ r. ⌜ r .placed ≤ length (now (row .exit)) ⌝ }
-    ensures { λ r. ⌜ ((bs : List Binding) → Bound (now (s .entry)) first (length (now (row .entry))) bs → (toposort-assign-bindings bs ≡ outcome-of (now (row .exit)) (r .placed)) × (r .rounds ≡ rounds (items bs))) ⌝ }
+    ensures { λ r. ⌜ SortsBindings (now (s .entry)) first (length (now (row .entry))) (now (row .exit)) r ⌝ }
 {
     let n = find_names(s, first, given, bodies);
     find_needs(s, &given[..n], bodies, needs, starts);
@@ -102,8 +97,8 @@ fn order_bindings(
 // The order of the bindings of the assign at the start of s.
 pub fn toposort_assign_bindings(s: &[u8]) -> Order
     requires { ⌜ length (now s) ≤ most-longest ⌝ }
-    requires { ⌜ ((k : Kind) × (l : Loc) × (w : Bytes) × (h : Bytes) × (bs : Bindings) × (b : Body) × Let (now s) k l w h bs b) ⌝ }
-    ensures { λ r. ⌜ ((k : Kind) (l : Loc) (w h : Bytes) (bs : Bindings) (b : Body) → Let (now (s .entry)) k l w h bs b → OrdersBindings (list-of bs) r) ⌝ }
+    requires { ⌜ SomeLet (now s) ⌝ }
+    ensures { λ r. ⌜ OrdersLet (now (s .entry)) r ⌝ }
 {
     let v = let_view(s);
     let count = v.count as usize;

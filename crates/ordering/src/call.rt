@@ -18,12 +18,11 @@ use records::input::open_input;
 ghost use mathlib.Core.Path.{_≡_};
 ghost use Prim.Native.Nat.{_-_, _≤_};
 ghost use lib.ListN.{length, take, drop};
-ghost use Rattle.names.specs.Names.{Bytes};
 ghost use Rattle.records.specs.Limits.{most-longest};
-ghost use Rattle.records.specs.Records.{Loc, Kind, Body, BL, Bindings};
-ghost use Rattle.ordering.specs.Assign.{Let};
+ghost use Rattle.ordering.specs.Assign.{SomeLet, AnswersLet};
 ghost use Rattle.ordering.specs.Needs.{binding-limit};
-ghost use Rattle.ordering.specs.OrderCall.{order-answer, stuck-answer, order-of, order-call};
+ghost use Rattle.ordering.specs.OrderCall.{stuck-answer, order-answer, order-call};
+ghost use Rattle.ordering.specs.OrderMeans.{OrderMeans};
 
 // Writes the order.
 fn ordered(o: Order, counter: u64, result: &mut [u8]) -> Answer
@@ -56,8 +55,8 @@ fn stuck(o: Order, place: Place, counter: u64, result: &mut [u8]) -> Answer
 // The answer for an assign that is read.
 fn order_of(counter: u64, s: &[u8], result: &mut [u8]) -> Answer
     requires { ⌜ length (now s) ≤ most-longest ⌝ }
-    requires { ⌜ ((k : Kind) × (l : Loc) × (w : Bytes) × (h : Bytes) × (bs : Bindings) × (b : Body) × Let (now s) k l w h bs b) ⌝ }
-    ensures { λ r. ⌜ ((k : Kind) (l : Loc) (w h : Bytes) (bs : Bindings) (b : Body) → Let (now (s .entry)) k l w h bs b → (r, now (result .exit)) ≡ order-of counter (now (result .entry)) (BL k l w h bs b)) ⌝ }
+    requires { ⌜ SomeLet (now s) ⌝ }
+    ensures { λ r. ⌜ AnswersLet (now (s .entry)) counter (now (result .entry)) (r, now (result .exit)) ⌝ }
 {
     let v = let_view(s);
     if result.len() < v.count as usize {
@@ -83,6 +82,7 @@ pub fn order_call(
     result: &mut [u8],
 ) -> Answer
     ensures { λ r. ⌜ (r, now (result .exit)) ≡ order-call f (length (now (work .entry))) counter (now (input .entry)) (now (result .entry)) ⌝ }
+    ensures { λ r. ⌜ OrderMeans (now (input .entry)) (r, now (result .exit)) ⌝ }
 {
     let opening = open_input(Wanted::Assign, f, work.len(), counter, input);
     match opening {

@@ -28,11 +28,9 @@ ghost use Rattle.records.specs.Records.{Sexp, sexp-bytes};
 ghost use Rattle.records.specs.Read.{kind-of};
 ghost use Rattle.records.specs.Sexps.{truthy};
 ghost use Rattle.records.specs.Valid.{SexpFields};
-ghost use Rattle.records.specs.declared.Family.the-variants.{Body as a-body};
-ghost use Rattle.records.specs.Parts.{family-part, fields-part, pattern-part, list-part};
-ghost use Rattle.ordering.specs.Listing.{Names, Lists, Reaches, kind-part, member-part, member-words, all-words};
+ghost use Rattle.ordering.specs.Listing.{Names, ListsSexp, ListsBody, ReachesKind, ReachesPattern, ReachesMember, ReachesMembers, ListsCaptured};
 ghost use Rattle.ordering.specs.Provisions.{Given};
-ghost use Rattle.ordering.specs.Words.{make-provides-set, let-word, captured, pattern-provides, words};
+ghost use Rattle.ordering.specs.Words.{let-word};
 
 // A name, if some binding provides it.
 fn word(a: &[u8], given: &[usize], name: &[u8], needs: &mut [u64], n: usize) -> usize
@@ -53,7 +51,7 @@ fn word(a: &[u8], given: &[usize], name: &[u8], needs: &mut [u64], n: usize) -> 
 // The names of the S record at the start of s.
 fn sexp_needs(a: &[u8], given: &[usize], s: &[u8], needs: &mut [u64], n: usize) -> Listed
     requires { ⌜ Given (now a) (now given) × (n ≤ length (now needs)) ⌝ }
-    ensures { λ r. ⌜ Lists fields-part make-provides-set (now (a .entry)) (now (given .entry)) (now (s .entry)) 0 (now (needs .entry)) (now (needs .exit)) n r ⌝ }
+    ensures { λ r. ⌜ ListsSexp (now (a .entry)) (now (given .entry)) (now (s .entry)) 0 (now (needs .entry)) (now (needs .exit)) n r ⌝ }
 {
     let v = sexp_view(s);
     match v {
@@ -80,7 +78,7 @@ fn sexp_needs(a: &[u8], given: &[usize], s: &[u8], needs: &mut [u64], n: usize) 
 // The names of the S record at a place.
 fn child_sexp(a: &[u8], given: &[usize], s: &[u8], at: usize, needs: &mut [u64], n: usize) -> Listed
     requires { ⌜ Given (now a) (now given) × (at ≤ length (now s)) × (n ≤ length (now needs)) ⌝ }
-    ensures { λ r. ⌜ Lists fields-part make-provides-set (now (a .entry)) (now (given .entry)) (now (s .entry)) at (now (needs .entry)) (now (needs .exit)) n r ⌝ }
+    ensures { λ r. ⌜ ListsSexp (now (a .entry)) (now (given .entry)) (now (s .entry)) at (now (needs .entry)) (now (needs .exit)) n r ⌝ }
 {
     let r = sexp_needs(a, given, &s[at..], needs, n);
     Listed {
@@ -109,7 +107,7 @@ fn truthy(s: &[u8]) -> bool
 // The names of the body at the start of s.
 pub fn body_needs(a: &[u8], given: &[usize], s: &[u8], needs: &mut [u64], n: usize) -> Listed
     requires { ⌜ Given (now a) (now given) × (n ≤ length (now needs)) ⌝ }
-    ensures { λ r. ⌜ Lists (family-part a-body) words (now (a .entry)) (now (given .entry)) (now (s .entry)) 0 (now (needs .entry)) (now (needs .exit)) n r ⌝ }
+    ensures { λ r. ⌜ ListsBody (now (a .entry)) (now (given .entry)) (now (s .entry)) 0 (now (needs .entry)) (now (needs .exit)) n r ⌝ }
 {
     let k = body_mark(s);
     match k {
@@ -143,7 +141,7 @@ fn let_word(a: &[u8], given: &[usize], kind: u8, needs: &mut [u64], n: usize) ->
 // The names of a BL.
 fn let_needs(a: &[u8], given: &[usize], s: &[u8], needs: &mut [u64], n: usize) -> Listed
     requires { ⌜ Given (now a) (now given) × (n ≤ length (now needs)) ⌝ }
-    ensures { λ r. ⌜ Reaches 0 (kind-part 0) words (now (a .entry)) (now (given .entry)) (now (s .entry)) 0 (now (needs .entry)) (now (needs .exit)) n r ⌝ }
+    ensures { λ r. ⌜ ReachesKind 0 (now (a .entry)) (now (given .entry)) (now (s .entry)) 0 (now (needs .entry)) (now (needs .exit)) n r ⌝ }
 {
     let v = let_view(s);
     let c = let_word(a, given, v.kind, needs, n);
@@ -158,7 +156,7 @@ fn let_needs(a: &[u8], given: &[usize], s: &[u8], needs: &mut [u64], n: usize) -
 // The names of a BC.
 fn call_needs(a: &[u8], given: &[usize], s: &[u8], needs: &mut [u64], n: usize) -> Listed
     requires { ⌜ Given (now a) (now given) × (n ≤ length (now needs)) ⌝ }
-    ensures { λ r. ⌜ Reaches 0 (kind-part 3) words (now (a .entry)) (now (given .entry)) (now (s .entry)) 0 (now (needs .entry)) (now (needs .exit)) n r ⌝ }
+    ensures { λ r. ⌜ ReachesKind 3 (now (a .entry)) (now (given .entry)) (now (s .entry)) 0 (now (needs .entry)) (now (needs .exit)) n r ⌝ }
 {
     let v = call_view(s);
     let from = Listed {
@@ -180,7 +178,7 @@ fn call_needs(a: &[u8], given: &[usize], s: &[u8], needs: &mut [u64], n: usize) 
 // The names of a BF: `to_sexp` writes no captures.
 fn lambda_needs(a: &[u8], given: &[usize], s: &[u8], needs: &mut [u64], n: usize) -> Listed
     requires { ⌜ Given (now a) (now given) × (n ≤ length (now needs)) ⌝ }
-    ensures { λ r. ⌜ Reaches 0 (kind-part 5) words (now (a .entry)) (now (given .entry)) (now (s .entry)) 0 (now (needs .entry)) (now (needs .exit)) n r ⌝ }
+    ensures { λ r. ⌜ ReachesKind 5 (now (a .entry)) (now (given .entry)) (now (s .entry)) 0 (now (needs .entry)) (now (needs .exit)) n r ⌝ }
 {
     let v = lambda_view(s);
     let c = word(a, given, b"lambda", needs, n);
@@ -200,7 +198,7 @@ fn capture_needs(
 ) -> usize
     requires { ⌜ Given (now a) (now given) × (at ≤ length (now s)) × (n ≤ length (now needs)) ⌝ }
     ensures { λ r. ⌜ r ≤ length (now (needs .entry)) ⌝ }
-    ensures { λ r. ⌜ ((t : Sexp) → SexpFields t → At (now (s .entry)) at (sexp-bytes t) → Names (captured t) (now (a .entry)) (now (given .entry)) (now (needs .entry)) (now (needs .exit)) n r) ⌝ }
+    ensures { λ r. ⌜ ListsCaptured (now (a .entry)) (now (given .entry)) (now (s .entry)) at (now (needs .entry)) (now (needs .exit)) n r ⌝ }
 {
     if !truthy(&s[at..]) {
         return n;
@@ -213,7 +211,7 @@ fn capture_needs(
 // The names of a BB.
 fn binding_needs(a: &[u8], given: &[usize], s: &[u8], needs: &mut [u64], n: usize) -> Listed
     requires { ⌜ Given (now a) (now given) × (n ≤ length (now needs)) ⌝ }
-    ensures { λ r. ⌜ Reaches 0 (member-part true) (member-words true) (now (a .entry)) (now (given .entry)) (now (s .entry)) 0 (now (needs .entry)) (now (needs .exit)) n r ⌝ }
+    ensures { λ r. ⌜ ReachesMember 0 true (now (a .entry)) (now (given .entry)) (now (s .entry)) 0 (now (needs .entry)) (now (needs .exit)) n r ⌝ }
 {
     let p = past_bytes(s, past_head(s), LOC_WIDTH);
     let q = pattern_needs(a, given, s, p, needs, n);
@@ -230,7 +228,7 @@ fn pattern_needs(
     n: usize,
 ) -> Listed
     requires { ⌜ Given (now a) (now given) × (at ≤ length (now s)) × (n ≤ length (now needs)) ⌝ }
-    ensures { λ r. ⌜ Reaches 0 pattern-part pattern-provides (now (a .entry)) (now (given .entry)) (now (s .entry)) at (now (needs .entry)) (now (needs .exit)) n r ⌝ }
+    ensures { λ r. ⌜ ReachesPattern (now (a .entry)) (now (given .entry)) (now (s .entry)) at (now (needs .entry)) (now (needs .exit)) n r ⌝ }
 {
     let v = tagged_view(s, at);
     if v.tag == 0 {
@@ -257,7 +255,7 @@ fn child(
     n: usize,
 ) -> Listed
     requires { ⌜ Given (now a) (now given) × (at ≤ length (now s)) × (n ≤ length (now needs)) ⌝ }
-    ensures { λ r. ⌜ Reaches 1 (member-part binding) (member-words binding) (now (a .entry)) (now (given .entry)) (now (s .entry)) at (now (needs .entry)) (now (needs .exit)) n r ⌝ }
+    ensures { λ r. ⌜ ReachesMember 1 binding (now (a .entry)) (now (given .entry)) (now (s .entry)) at (now (needs .entry)) (now (needs .exit)) n r ⌝ }
 {
     if at == 0 {
         return Listed { count: n, end: 0 };
@@ -279,7 +277,7 @@ fn member_needs(
     n: usize,
 ) -> Listed
     requires { ⌜ Given (now a) (now given) × (n ≤ length (now needs)) ⌝ }
-    ensures { λ r. ⌜ Reaches 0 (member-part binding) (member-words binding) (now (a .entry)) (now (given .entry)) (now (s .entry)) 0 (now (needs .entry)) (now (needs .exit)) n r ⌝ }
+    ensures { λ r. ⌜ ReachesMember 0 binding (now (a .entry)) (now (given .entry)) (now (s .entry)) 0 (now (needs .entry)) (now (needs .exit)) n r ⌝ }
 {
     if binding {
         binding_needs(a, given, s, needs, n)
@@ -299,7 +297,7 @@ fn times(
     needs: &mut [u64],
 ) -> Listed
     requires { ⌜ Given (now a) (now given) × (from .end ≤ length (now s)) × (from .count ≤ length (now needs)) ⌝ }
-    ensures { λ r. ⌜ Reaches 1 (list-part (member-part binding) count) (all-words (member-words binding)) (now (a .entry)) (now (given .entry)) (now (s .entry)) (from .end) (now (needs .entry)) (now (needs .exit)) (from .count) r ⌝ }
+    ensures { λ r. ⌜ ReachesMembers binding count (now (a .entry)) (now (given .entry)) (now (s .entry)) from (now (needs .entry)) (now (needs .exit)) r ⌝ }
 {
     let mut r = from;
     let mut i = 0;

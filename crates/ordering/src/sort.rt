@@ -2,19 +2,17 @@
 // needed name, as bits; those of binding i stand in `needs` from `starts[i]` up to `starts[i + 1]`.
 use crate::Sorted;
 ghost use mathlib.Core.Path.{_≡_};
-ghost use mathlib.Core.List.{List};
-ghost use Prim.Native.Nat.{ℕ, _≤_, _<_};
-ghost use lib.ListN.{length, getD, take};
-ghost use Rattle.ordering.specs.Items.{Item};
-ghost use Rattle.ordering.specs.Toposort.{indices-from, turn, toposort, rounds};
-ghost use Rattle.ordering.specs.Needs.{binding-limit, bits, marks, NeedsAt, Starts, TurnStart, outcome-of};
+ghost use Prim.Native.Nat.{_≤_};
+ghost use lib.ListN.{length, take};
+ghost use Rattle.ordering.specs.Toposort.{indices-from};
+ghost use Rattle.ordering.specs.Needs.{binding-limit, bits, marks, Starts, IndicesBelow, TakesTurn, SortsItems};
 
 // Orders the indices of all bindings in `row`.
 pub fn toposort(needs: &[u64], starts: &[usize], row: &mut [u8]) -> Sorted
     requires { ⌜ Starts (length (now row)) (now needs) (now starts) ⌝ }
     ensures { λ r. ⌜ (r .placed ≤ length (now (row .exit))) × (r .rounds ≤ r .placed) ⌝ }
-    ensures { λ _. ⌜ ((k : ℕ) → k < length (now (row .exit)) → getD (now (row .exit)) k 0 < length (now (row .exit))) ⌝ }
-    ensures { λ r. ⌜ ((bs : List Item) → length bs ≡ length (now (row .entry)) → NeedsAt bs (now (needs .entry)) (now (starts .entry)) → (toposort bs ≡ outcome-of (now (row .exit)) (r .placed)) × (r .rounds ≡ rounds bs)) ⌝ }
+    ensures { λ _. ⌜ IndicesBelow (now (row .exit)) ⌝ }
+    ensures { λ r. ⌜ SortsItems (length (now (row .entry))) (now (needs .entry)) (now (starts .entry)) (now (row .exit)) r ⌝ }
 {
     rising(row);
     let mut placed = 0;
@@ -46,7 +44,7 @@ fn rising(row: &mut [u8])
 // The bits of the indices of a row's first `placed`.
 fn placed_bits(row: &[u8], placed: usize) -> u64
     requires { ⌜ (length (now row) ≤ binding-limit) × (placed ≤ length (now row)) ⌝ }
-    requires { ⌜ ((k : ℕ) → k < length (now row) → getD (now row) k 0 < length (now row)) ⌝ }
+    requires { ⌜ IndicesBelow (now row) ⌝ }
     ensures { λ r. ⌜ r ≡ bits (marks (length (now (row .entry))) (take placed (now (row .entry)))) ⌝ }
 {
     let mut bits = 0;
@@ -62,10 +60,10 @@ fn placed_bits(row: &[u8], placed: usize) -> u64
 // leftmost one not yet placed, and is then placed.
 fn turn(needs: &[u64], starts: &[usize], row: &mut [u8], placed: usize, done: u64) -> usize
     requires { ⌜ Starts (length (now row)) (now needs) (now starts) × (placed ≤ length (now row)) ⌝ }
-    requires { ⌜ ((k : ℕ) → k < length (now row) → getD (now row) k 0 < length (now row)) ⌝ }
+    requires { ⌜ IndicesBelow (now row) ⌝ }
     ensures { λ r. ⌜ (placed ≤ r) × (r ≤ length (now (row .exit))) ⌝ }
-    ensures { λ _. ⌜ ((k : ℕ) → k < length (now (row .exit)) → getD (now (row .exit)) k 0 < length (now (row .exit))) ⌝ }
-    ensures { λ r. ⌜ ((bs : List Item) → TurnStart bs (now (needs .entry)) (now (starts .entry)) (now (row .entry)) placed done → turn bs (record { row = now (row .entry); placed = placed }) ≡ record { row = now (row .exit); placed = r }) ⌝ }
+    ensures { λ _. ⌜ IndicesBelow (now (row .exit)) ⌝ }
+    ensures { λ r. ⌜ TakesTurn (now (needs .entry)) (now (starts .entry)) (now (row .entry)) placed done (now (row .exit)) r ⌝ }
 {
     let mut left = placed;
     let mut p = placed;

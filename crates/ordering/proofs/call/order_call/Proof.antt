@@ -3,26 +3,43 @@ use borrow.Author.Needs.{needs}
 use mathlib.Core.Path.{sym, _∙_}
 use native.Mathlib.Omega.{arith}
 use lib.ListN.{length}
-use Rattle.ordering.proofs.OrderLaws.{call-refused, call-taken}
+use Rattle.records.specs.Valid.{AreBytes}
+use Rattle.ordering.proofs.OrderAnswers.{answer-means}
+use Rattle.ordering.proofs.OrderLaws.{call-refused, TakenSome, call-taken}
 use Rattle.ordering.proofs.call.order_call.Statement.{statement}
 use Rattle.ordering.proofs.call.order_call.Tie as tie
 
+-- the start, from where the input is opened
+abbrev begin : tie.After-open-input → tie.Start
+begin o = o .before .before .before .before
+
+-- the input is bytes
+bytes : (o : tie.After-open-input) → AreBytes (begin o .args .input .now)
+bytes o i = omega (arith, o .before .before .shared-slice-known .given i)
+
+-- the assign that is accepted
+accepts : (c : tie.After-enum-told)
+    → let s = begin (c .before .before) .args in TakenSome (s .f) (length (s .work .now)) (s .counter) (s .input .now) (s .result .now)
+accepts c =
+    let o = c .before .before in
+    call-taken _ _ _ _ _ (bytes o) (sym (c .enum-told .given .1) ∙ o .open-input .ensures)
+
 order-of-requires : tie.Need-order-of-requires
-order-of-requires c κs =
-    let s = c .before .before .before .before .before .before .before .args in
-    let t = call-taken (s .f) (length (s .work .now)) (s .counter) (s .input .now) (s .result .now) (λ i. omega (arith, c .before .before .before .before .before .shared-slice-known .given i)) (sym (c .before .enum-told .given .1) ∙ c .before .before .before .open-input .ensures) in
-    (t .6 .size, (t .0, t .1, t .2, t .3, t .4, t .5, t .6 .let-there))
+order-of-requires c κs = let t = accepts (c .before) in (t .6 .size, (t .0, t .1, t .2, t .3, t .4, t .5, t .6 .let-there))
 
 returns : tie.Need-returns
 returns c =
-    let o = c .before .before in
-    c .refused .ensures _ ∙ sym (call-refused _ _ _ _ _ _ (sym (o .opening .given .1) ∙ o .before .before .open-input .ensures))
+    let r = c .before .before in
+    let o = r .before .before in
+    answer-means _ _ _ _ _ (bytes o) (c .refused .ensures _ ∙ sym (call-refused _ _ _ _ _ _ (sym (r .opening .given .1) ∙ o .open-input .ensures)))
 
 returns-2 : tie.Need-returns-2
 returns-2 c =
-    let s = c .before .before .before .before .before .before .before .before .before .before .args in
-    let t = call-taken (s .f) (length (s .work .now)) (s .counter) (s .input .now) (s .result .now) (λ i. omega (arith, c .before .before .before .before .before .before .before .before .shared-slice-known .given i)) (sym (c .before .before .before .before .enum-told .given .1) ∙ c .before .before .before .before .before .before .open-input .ensures) in
-    c .before .before .order-of .ensures (t .0) (t .1) (t .2) (t .3) (t .4) (t .5) (t .6 .let-there) ∙ sym (t .6 .is)
+    let d = c .before .before in
+    let a = d .before .before in
+    let t = accepts a in
+    answer-means _ _ _ _ _ (bytes (a .before .before))
+    (d .order-of .ensures (t .0) (t .1) (t .2) (t .3) (t .4) (t .5) (t .6 .let-there) ∙ sym (t .6 .is))
 
 pub order-call-spec : {M : Type 1} → statement M
 order-call-spec =

@@ -40,7 +40,7 @@ short c =
     let s = start c in
     let v = s .args .n in
     let k = here s in
-    c .lookup .ensures .1 (omega (arith, k .valid, k .name .ends, length-take (v .end - v .start) (drop (v .start) (s .args .mem .now))))
+    c .lookup .ensures .1 .0 (omega (arith, k .valid, k .name .ends, length-take (v .end - v .start) (drop (v .start) (s .args .mem .now))))
 
 -- and stands in the local
 copied : (c : tie.After-put) → take (length (looked c .lookup .result .now)) (c .put .last .0) ≡ looked c .lookup .result .now
