@@ -12,32 +12,34 @@ use Rattle.records.specs.Records.{body-bytes, helper-bytes, form-bytes}
 use Rattle.records.specs.Read.{Plain, Reader, Whole, whole, readers, assign-of, read-whole}
 use Rattle.records.specs.Opened.{opened, limits, no-mod, open-input}
 use Rattle.records.specs.Valid.{AreBytes, ValidForm, ValidHelper, ValidAssign, NoMod, HelperNoMod, FormNoMod}
+use Rattle.records.proofs.FirstMods.{body-first, helper-first, form-first}
 use Rattle.records.proofs.Exact.{form-read-back, helper-read-back, assign-read-back}
 use Rattle.records.proofs.Opened.{start}
 use Rattle.records.proofs.Readers.{true-of}
 use Rattle.records.proofs.Complete.{WholeRead, form-complete, helper-complete, assign-complete}
 use Rattle.records.proofs.Valid.{form-valid, helper-valid, assign-valid}
 
--- m reads whole what f writes of a tree with Valid, and nothing else; no BM is noted exactly if the tree has Clear
+-- m reads whole what f writes of a tree with Valid, and nothing else; the first BM noted, and that none is noted exactly if the tree has Clear
 pub record Format {A : Type 0} (m : Reader A) (f : A → Bytes) (Valid Clear : A → Type 0) : Type 0 where
-  pub complete : (t : A) → Valid t → WholeRead (Clear t) m (f t) t
+  pub first : A → Option ℕ
+  pub complete : (t : A) → Valid t → WholeRead (Clear t) (first t) m (f t) t
   pub valid : (input : Bytes) (t : A) (o : Option ℕ) → AreBytes input → read-whole m input ≡ whole t o → Valid t
   pub back : (input : Bytes) (t : A) (o : Option ℕ) → read-whole m input ≡ whole t o → input ≡ f t
 
-pub form-format : Format (readers level-limit .form) form-bytes ValidForm (FormNoMod Plain)
-form-format = record { complete = form-complete; valid = form-valid; back = form-read-back }
+unfoldable pub form-format : Format (readers level-limit .form) form-bytes ValidForm (FormNoMod Plain)
+form-format = record { first = form-first Plain; complete = form-complete; valid = form-valid; back = form-read-back }
 
-pub helper-format : Format (readers level-limit .helper) helper-bytes ValidHelper (HelperNoMod Plain)
-helper-format = record { complete = helper-complete; valid = helper-valid; back = helper-read-back }
+unfoldable pub helper-format : Format (readers level-limit .helper) helper-bytes ValidHelper (HelperNoMod Plain)
+helper-format = record { first = helper-first Plain; complete = helper-complete; valid = helper-valid; back = helper-read-back }
 
-pub assign-format : Format assign-of body-bytes ValidAssign (NoMod Plain)
-assign-format = record { complete = assign-complete; valid = assign-valid; back = assign-read-back }
+unfoldable pub assign-format : Format assign-of body-bytes ValidAssign (NoMod Plain)
+assign-format = record { first = body-first Plain; complete = assign-complete; valid = assign-valid; back = assign-read-back }
 
 module _ {A : Type 0} {t u : A} {o p : Option ℕ} where
   same-tree : _≡_ {A = Whole A} (whole t o) (whole u p) → t ≡ u
   same-tree e = cc
 
-  same-first : _≡_ {A = Whole A} (whole t o) (whole u p) → o ≡ p
+  pub same-first : _≡_ {A = Whole A} (whole t o) (whole u p) → o ≡ p
   same-first e = cc
 
 module _ {A : Type 0} {m : Reader A} {f : A → Bytes} {Valid Clear : A → Type 0} (s : Format m f Valid Clear) where
@@ -56,7 +58,7 @@ module _ {A : Type 0} {m : Reader A} {f : A → Bytes} {Valid Clear : A → Type
   pub accepted : (input : Bytes) (t : A) → AreBytes input → ((o : Option ℕ) × (read-whole m input ≡ whole t o)) ↔ (Valid t × (input ≡ f t))
   accepted input t b = (
     λ (o, h). (s .valid input t o b h, s .back input t o h),
-    λ (v, e). let w = s .complete t v in (w .first, ap (read-whole m) e ∙ w .whole-read),
+    λ (v, e). let w = s .complete t v in (s .first t, ap (read-whole m) e ∙ w .whole-read),
   )
 
   -- valid trees with the same bytes are the same

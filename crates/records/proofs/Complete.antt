@@ -15,6 +15,8 @@ use Rattle.records.specs.Limits.{level-limit, cons-limit, lambda-limit, 
 use Rattle.records.specs.Records.{mark-width, Loc, loc-width, byte, integer-field, Sexp, SN, SC, SI, SQ, SA, sexp-bytes, record-bytes, Kind, Parallel, Sequential, Assign, kind-field, Pattern, Name, Complex, pattern-field, Body, BL, BQ, BV, BC, BM, BF, body-bytes, Bodies, []ᵇ, _∷ᵇ_, bodies-bytes, Tail, no-tail, tail, tail-bytes, Binding, BB, binding-bytes, Bindings, []ᵍ, _∷ᵍ_, bindings-bytes, Helper, HC, HM, HD, HN, HR, helper-bytes, Helpers, []ʰ, _∷ʰ_, helpers-bytes, Form, CF, form-bytes, to-bodies, to-bindings, list-of, to-helpers, bodies-count, bindings-count, helpers-count}
 use Rattle.records.proofs.Readers.{true-of}
 use Rattle.records.proofs.Depth.{levels-split}
+use Rattle.records.proofs.LeastMods.{least-none, form-least}
+use Rattle.records.proofs.FirstMods.{earlier, behind, earlier-none, earlier-behind, noted-behind, first-in, body-first, bodies-first, tail-first, binding-first, bindings-first, helper-first, helpers-first, form-first}
 use Rattle.records.specs.Depth.{depth, bodies-depth, tail-depth, binding-depth, bindings-depth, helper-depth, helpers-depth, form-depth}
 use Rattle.records.specs.Valid.{ValidLoc, ValidName, ValidKeyword, ValidHint, ValidRaw, ValidCount, cons-depth, SexpFields, ValidSexp, ValidPattern, BodyFields, BodiesFields, TailFields, BindingFields, BindingsFields, HelperFields, HelpersFields, FormFields, lambda-depth, bodies-lambda-depth, tail-lambda-depth, binding-lambda-depth, bindings-lambda-depth, helper-lambda-depth, helpers-lambda-depth, form-lambda-depth, ValidBody, ValidHelper, ValidForm, ValidAssign, IsLet, Outside, NoMod, BodiesNoMod, TailNoMod, BindingNoMod, BindingsNoMod, HelperNoMod, HelpersNoMod, FormNoMod}
 use Rattle.records.specs.Read.{Zone, Plain, InBinding, InMod, Context, Input, Fault, malformed, over-limit, Read, done, refused, Reader, _>>=_, _>>_, ret, check, times, deeper, in-lambda, in-zone, next, bytes, choose, marked, loc, name, raw-field, integer, up-to, with-loc, keyword, hint, count, sexp-rule, cons-rule, sexp-at, sexp, noted, note, Readers, kind-of, binding-zone, in-bindings, pattern-after, pattern-of, binding, let-of, tail-after, call-tail, body-rule, helper-rule, form-rule, rules, readers, assign-of, whole, left-over, read-whole, counted, shortest, at-most, optional-loc, from-first}
@@ -23,55 +25,63 @@ use Rattle.records.specs.Read.{Zone, Plain, InBinding, InMod, Context, I
 abbrev pub context : ℕ → ℕ → ℕ → Zone → Context
 context p n k z = record { mark = p; room = n; lambdas = k; zone = z }
 
--- r is done with a after bs, and `more` is left; no BM has been noted exactly if none had been before, and Q
-pub record Ends {A : Type 0} (Q : Type 0) (i : Input) (bs : Bytes) (a : A) (more : Bytes) (r : Read A) : Type 0 where
+-- r is done with a after bs, and `more` is left; the first BM noted is that noted before, or the one x bytes on
+pub record Ends {A : Type 0} (x : Option ℕ) (i : Input) (bs : Bytes) (a : A) (more : Bytes) (r : Read A) : Type 0 where
   pub end : Input
   pub ran : r ≡ done a end
   pub left : end .rest ≡ more
   pub moved : end .offset ≡ i .offset + length bs
-  pub clear : end .first-mod ≡ none → (i .first-mod ≡ none) × Q
-  pub stays : i .first-mod ≡ none → Q → end .first-mod ≡ none
+  pub notes : end .first-mod ≡ earlier (i .first-mod) (behind (i .offset) x)
 
--- with room n, k lambdas and zone z, m reads bs as a, whatever follows
-pub record Reads {A : Type 0} (Q : Type 0) (n k : ℕ) (z : Zone) (m : Reader A) (bs : Bytes) (a : A) : Type 0 where
-  pub reads : (p : ℕ) (i : Input) (more : Bytes) → i .rest ≡ bs ++ more → Ends Q i bs a more (m (context p n k z) i)
+-- with room n, k lambdas and zone z, m reads bs as a, whatever follows; x is the first BM that it notes, and there is none exactly if Q
+pub record Reads {A : Type 0} (Q : Type 0) (x : Option ℕ) (n k : ℕ) (z : Zone) (m : Reader A) (bs : Bytes) (a : A) : Type 0 where
+  pub reads : (p : ℕ) (i : Input) (more : Bytes) → i .rest ≡ bs ++ more → Ends x i bs a more (m (context p n k z) i)
+  pub clear : x ≡ none → Q
+  pub stays : Q → x ≡ none
 
 -- no BM is among what is read
 abbrev pub Quiet : {A : Type 0} → ℕ → ℕ → Zone → Reader A → Bytes → A → Type 0
-Quiet n k z m bs a = Reads (Unit {0}) n k z m bs a
+Quiet n k z m bs a = Reads (Unit {0}) none n k z m bs a
 
-module _ {A : Type 0} {Q : Type 0} {n k : ℕ} {z : Zone} {m : Reader A} {bs : Bytes} {a : A} where
+module _ {A : Type 0} {Q : Type 0} {x : Option ℕ} {n k : ℕ} {z : Zone} {m : Reader A} {bs : Bytes} {a : A} where
   -- the same said otherwise
-  reads-so : {Q′ : Type 0} → (Q′ → Q) → (Q → Q′) → Reads Q n k z m bs a → Reads Q′ n k z m bs a
-  reads-so f g s = record {
-    reads = λ p i more e.
-        let u = s .reads p i more e in
-        record { end = u .end; ran = u .ran; left = u .left; moved = u .moved; clear = λ h. (u .clear h .0, g (u .clear h .1)); stays = λ h q. u .stays h (f q) };
-  }
+  reads-so : {Q′ : Type 0} → (Q′ → Q) → (Q → Q′) → Reads Q x n k z m bs a → Reads Q′ x n k z m bs a
+  reads-so f g s = record { reads = s .reads; clear = λ h. g (s .clear h); stays = λ q. s .stays (f q) }
 
-  reads-check : (x : Fault) {ok : Bool} → ok ≡ true → Reads Q n k z m bs a → Reads Q n k z (check x ok m) bs a
+  -- where there is none
+  reads-quiet : x ≡ none → Reads Q x n k z m bs a → Quiet n k z m bs a
+  reads-quiet h s = record { reads = λ p i more e. rw h at (s .reads p i more e); clear = λ _. tt; stays = λ _. refl }
+
+  reads-check : (y : Fault) {ok : Bool} → ok ≡ true → Reads Q x n k z m bs a → Reads Q x n k z (check y ok m) bs a
   unfolding check
-  reads-check x q s = rw q s
+  reads-check y q s = rw q s
 
-  reads-in-zone : {y : Zone} → Reads Q n k z m bs a → Reads Q n k y (in-zone z m) bs a
+  reads-in-zone : {y : Zone} → Reads Q x n k z m bs a → Reads Q x n k y (in-zone z m) bs a
   unfolding in-zone
-  reads-in-zone s = record { reads = s .reads }
+  reads-in-zone s = record { reads = s .reads; clear = s .clear; stays = s .stays }
 
-  reads-deeper : (d : ℕ) → d ≤ n → Reads Q (n - d) k z m bs a → Reads Q n k z (deeper d m) bs a
+  reads-deeper : (d : ℕ) → d ≤ n → Reads Q x (n - d) k z m bs a → Reads Q x n k z (deeper d m) bs a
   unfolding deeper
-  reads-deeper d h s = record { reads = λ p i more e. rw (true-of (leb d n) (le→leb d n h), deeper) (s .reads p i more e) }
+  reads-deeper d h s = record { reads = λ p i more e. rw (true-of (leb d n) (le→leb d n h), deeper) (s .reads p i more e); clear = s .clear; stays = s .stays }
 
-  reads-in-lambda : 1 ≤ k → Reads Q n (k - 1) z m bs a → Reads Q n k z (in-lambda m) bs a
+  reads-in-lambda : 1 ≤ k → Reads Q x n (k - 1) z m bs a → Reads Q x n k z (in-lambda m) bs a
   unfolding in-lambda
-  reads-in-lambda h s = record { reads = λ p i more e. rw (true-of (leb 1 k) (le→leb 1 k h), in-lambda) (s .reads p i more e) }
+  reads-in-lambda h s = record { reads = λ p i more e. rw (true-of (leb 1 k) (le→leb 1 k h), in-lambda) (s .reads p i more e); clear = s .clear; stays = s .stays }
 
-  reads-in-bindings : (x : Kind) → Reads Q n k (binding-zone x z) m bs a → Reads Q n k z (in-bindings x m) bs a
+  reads-in-bindings : (y : Kind) → Reads Q x n k (binding-zone y z) m bs a → Reads Q x n k z (in-bindings y m) bs a
   unfolding in-bindings in-zone
-  reads-in-bindings x s = record { reads = s .reads }
+  reads-in-bindings y s = record { reads = s .reads; clear = s .clear; stays = s .stays }
 
-module _ {A B : Type 0} {Q R : Type 0} {n k : ℕ} {z : Zone} {m : Reader A} {bs cs : Bytes} {a : A} {b : B} where
+-- neither is a BM noted before nor behind
+both-clear : (n : ℕ) (x y : Option ℕ) → earlier x (behind n y) ≡ none → (x ≡ none) × (y ≡ none)
+both-clear n none none h = (refl, refl)
+both-clear n none (some q) h = absurd (let z : _≡_ {A = ℕ} 0 1 = cc in omega arith)
+both-clear n (some p) y h = absurd (let z : _≡_ {A = ℕ} 0 1 = cc in omega arith)
+
+module _ {A B : Type 0} {Q R : Type 0} {x y : Option ℕ} {n k : ℕ} {z : Zone} {m : Reader A} {bs cs : Bytes} {a : A} {b : B} where
   -- one after the other
-  reads-both : (f : A → Reader B) → Reads Q n k z m bs a → Reads R n k z (f a) cs b → Reads (Q × R) n k z (m >>= f) (bs ++ cs) b
+  reads-both : (f : A → Reader B) → Reads Q x n k z m bs a → Reads R y n k z (f a) cs b
+      → Reads (Q × R) (earlier x (behind (length bs) y)) n k z (m >>= f) (bs ++ cs) b
   unfolding _>>=_
   reads-both f s t = record {
     reads = λ p i more e.
@@ -82,42 +92,46 @@ module _ {A B : Type 0} {Q R : Type 0} {n k : ℕ} {z : Zone} {m : Reader A} {bs
           ran = ap (λ (r : Read A). elim r as (λ _. Read B) [ done x l ↦ f x (context p n k z) l | refused y q ↦ refused y q ]) (u .ran) ∙ v .ran;
           left = v .left;
           moved = omega (arith, u .moved, v .moved, length-append bs cs);
-          clear = λ h. (u .clear (v .clear h .0) .0, (u .clear (v .clear h .0) .1, v .clear h .1));
-          stays = λ h q. v .stays (u .stays h (q .0)) (q .1);
+          notes = v .notes ∙ rw (u .notes, u .moved) (earlier-behind (i .first-mod) x y (i .offset) (length bs));
         };
+    clear = λ h. let e = both-clear (length bs) x y h in (s .clear (e .0), t .clear (e .1));
+    stays = λ q. rw (s .stays (q .0), t .stays (q .1));
   }
 
-module _ {A B : Type 0} {Q : Type 0} {n k : ℕ} {z : Zone} {m : Reader A} {bs cs : Bytes} {a : A} {b : B} where
+module _ {A B : Type 0} {Q : Type 0} {x : Option ℕ} {n k : ℕ} {z : Zone} {m : Reader A} {bs cs : Bytes} {a : A} {b : B} where
   -- no BM is among the first
-  reads-bind : (f : A → Reader B) → Quiet n k z m bs a → Reads Q n k z (f a) cs b → Reads Q n k z (m >>= f) (bs ++ cs) b
+  reads-bind : (f : A → Reader B) → Quiet n k z m bs a → Reads Q x n k z (f a) cs b → Reads Q (behind (length bs) x) n k z (m >>= f) (bs ++ cs) b
   reads-bind f s t = reads-so (λ q. (tt, q)) (λ q. q .1) (reads-both f s t)
 
 module _ {A : Type 0} {n k : ℕ} {z : Zone} {a b : A} where
   reads-ret : a ≡ b → Quiet n k z (ret a) [] b
   unfolding ret
-  reads-ret q = record { reads = λ p i more e. record { end = i; ran = ap (λ (x : A). done x i) q; left = e; moved = omega arith; clear = λ h. (h, tt); stays = λ h _. h } }
+  reads-ret q = record {
+    reads = λ p i more e. record { end = i; ran = ap (λ (x : A). done x i) q; left = e; moved = omega arith; notes = sym (earlier-none (i .first-mod)) };
+    clear = λ _. tt;
+    stays = λ _. refl;
+  }
 
-module _ {A B : Type 0} {Q : Type 0} {n k : ℕ} {z : Zone} {m : Reader A} {bs : Bytes} {a : A} {b : B} where
+module _ {A B : Type 0} {Q : Type 0} {x : Option ℕ} {n k : ℕ} {z : Zone} {m : Reader A} {bs : Bytes} {a : A} {b : B} where
   -- m stands last
-  reads-last : (g : A → B) → g a ≡ b → Reads Q n k z m bs a → Reads Q n k z (m >>= λ x. ret (g x)) (bs ++ []) b
-  reads-last g q s = reads-so (λ x. (x, tt)) (λ x. x .0) (reads-both (λ x. ret (g x)) s (reads-ret q))
+  reads-last : (g : A → B) → g a ≡ b → Reads Q x n k z m bs a → Reads Q (earlier x none) n k z (m >>= λ y. ret (g y)) (bs ++ []) b
+  reads-last g q s = reads-so (λ y. (y, tt)) (λ y. y .0) (reads-both (λ y. ret (g y)) s (reads-ret q))
 
-  reads-then : (g : A → B) → g a ≡ b → Reads Q n k z m bs a → Reads Q n k z (m >>= λ x. ret (g x)) bs b
+  reads-then : (g : A → B) → g a ≡ b → Reads Q x n k z m bs a → Reads Q (earlier x none) n k z (m >>= λ y. ret (g y)) bs b
   reads-then g q s = rw append-nil at (reads-last g q s)
 
 -- a BM is noted exactly in a binding body of an assign
-clear-noted : (z : Zone) (o : Option ℕ) (p : ℕ) → noted z o p ≡ none → (o ≡ none) × Outside z
+clear-noted : (z : Zone) → noted z none 0 ≡ none → Outside z
 unfolding noted Outside
-clear-noted Plain o p h = (h, tt)
-clear-noted InBinding none p h = absurd (let x : _≡_ {A = ℕ} 0 1 = cc in omega arith)
-clear-noted InBinding (some q) p h = absurd (let x : _≡_ {A = ℕ} 0 1 = cc in omega arith)
-clear-noted InMod o p h = (h, tt)
+clear-noted Plain h = tt
+clear-noted InBinding h = absurd (let x : _≡_ {A = ℕ} 0 1 = cc in omega arith)
+clear-noted InMod h = tt
 
-stays-noted : (z : Zone) (o : Option ℕ) (p : ℕ) → o ≡ none → Outside z → noted z o p ≡ none
+stays-noted : (z : Zone) → Outside z → noted z none 0 ≡ none
 unfolding noted Outside
-stays-noted Plain o p h q = h
-stays-noted InBinding o p h q = absurd q
-stays-noted InMod o p h q = h
+stays-noted Plain q = refl
+stays-noted InBinding q = absurd q
+stays-noted InMod q = refl
 
 module _ {n k : ℕ} {z : Zone} where
   reads-next : (b : ℕ) → Quiet n k z next (byte b) b
@@ -128,22 +142,10 @@ module _ {n k : ℕ} {z : Zone} where
       ran = rw (e, next);
       left = refl;
       moved = refl;
-      clear = λ h. (h, tt);
-      stays = λ h _. h;
+      notes = sym (earlier-none (i .first-mod));
     };
-  }
-
-  reads-note : Reads (Outside z) n k z note [] tt
-  unfolding note
-  reads-note = record {
-    reads = λ p i more e. record {
-      end = record { offset = i .offset; rest = i .rest; first-mod = noted z (i .first-mod) p };
-      ran = refl;
-      left = e;
-      moved = omega arith;
-      clear = clear-noted z (i .first-mod) p;
-      stays = stays-noted z (i .first-mod) p;
-    };
+    clear = λ _. tt;
+    stays = λ _. refl;
   }
 
 module _ {A : Type 0} {n k : ℕ} {z : Zone} (m : Reader A) where
@@ -151,7 +153,8 @@ module _ {A : Type 0} {n k : ℕ} {z : Zone} (m : Reader A) where
   unfolding times
   reads-none = reads-ret refl
 
-  reads-more : {Q R : Type 0} (c : ℕ) {bs cs : Bytes} {a : A} {l : List A} → Reads Q n k z m bs a → Reads R n k z (times c m) cs l → Reads (Q × R) n k z (times (suc c) m) (bs ++ cs) (a ∷ l)
+  reads-more : {Q R : Type 0} {x y : Option ℕ} (c : ℕ) {bs cs : Bytes} {a : A} {l : List A} → Reads Q x n k z m bs a → Reads R y n k z (times c m) cs l
+      → Reads (Q × R) (earlier x (behind (length bs) (earlier y none))) n k z (times (suc c) m) (bs ++ cs) (a ∷ l)
   unfolding times
   reads-more c {a} s t = reads-both _ s (reads-then (λ l. a ∷ l) refl t)
 
@@ -213,14 +216,44 @@ module _ {n k : ℕ} {z : Zone} where
   reads-hint (inr (inr (inl (l, q, e)))) = rw e (reads-bind _ (reads-up-to 3 (omega arith)) (reads-with-loc 2 q))
   reads-hint (inr (inr (inr (l, q, e)))) = rw e (reads-bind _ (reads-up-to 3 (omega arith)) (reads-with-loc 3 q))
 
-module _ {A : Type 0} {Q : Type 0} {n k : ℕ} {z : Zone} {bs : Bytes} {a : A} where
+module _ {A : Type 0} {Q : Type 0} {x : Option ℕ} {n k : ℕ} {z : Zone} {bs : Bytes} {a : A} where
   -- the record of a mark
-  reads-marked : (es : List (String × Reader A)) (s : String) → length (ascii s) ≡ mark-width → Reads Q n k z (choose (ascii s) es) bs a → Reads Q n k z (marked es) (ascii s ++ bs) a
+  reads-marked : (es : List (String × Reader A)) (s : String) → length (ascii s) ≡ mark-width → Reads Q x n k z (choose (ascii s) es) bs a
+      → Reads Q (behind (length (ascii s)) x) n k z (marked es) (ascii s ++ bs) a
   unfolding marked
-  reads-marked es s q t = record { reads = λ p i more e. all .reads (i .offset) i more e }
+  reads-marked es s q t = record { reads = λ p i more e. all .reads (i .offset) i more e; clear = all .clear; stays = all .stays }
     where
-      all : Reads Q n k z (bytes mark-width >>= λ x. choose x es) (ascii s ++ bs) a
+      all : Reads Q (behind (length (ascii s)) x) n k z (bytes mark-width >>= λ y. choose y es) (ascii s ++ bs) a
       all = reads-bind _ (reads-bytes mark-width q) t
+
+module _ {A : Type 0} {n k : ℕ} {z : Zone} {bs : Bytes} {a : A} where
+  -- a record whose mark is noted, and nothing in it
+  reads-noted : (es : List (String × Reader A)) (s : String) (m : Reader A) → length (ascii s) ≡ mark-width
+      → choose (ascii s) es ≡ deeper 1 (note >> m) → 1 ≤ n → Quiet (n - 1) k z m bs a
+      → Reads (Outside z) (noted z none 0) n k z (marked es) (ascii s ++ bs) a
+  unfolding marked _>>=_ _>>_ deeper note
+  reads-noted es s m q h l t = record {
+    reads = λ p i more e.
+        let w : Quiet n k z (bytes mark-width) (ascii s) (ascii s) = reads-bytes mark-width q in
+        let c : Context = context (i .offset) n k z in
+        let u = w .reads (i .offset) i (bs ++ more) (e ∙ append-assoc (ascii s) bs more) in
+        let j : Input = record { offset = u .end .offset; rest = u .end .rest; first-mod = noted z (u .end .first-mod) (i .offset) } in
+        let v = t .reads (i .offset) j more (u .left) in
+        record {
+          end = v .end;
+          ran =
+              ap (λ (r : Read Bytes). elim r as (λ _. Read A) [ done y d ↦ choose y es c d | refused y d ↦ refused y d ]) (u .ran)
+              ∙ ap (λ (f : Reader A). f c (u .end)) h
+              ∙ rw (true-of (leb 1 n) (le→leb 1 n l), deeper) (v .ran);
+          left = v .left;
+          moved = omega (arith, u .moved, v .moved, length-append (ascii s) bs);
+          notes =
+              v .notes ∙ earlier-none _ ∙ ap (λ (f : Option ℕ). noted z f (i .offset)) (u .notes ∙ earlier-none (i .first-mod))
+              ∙ noted-behind z (i .first-mod) (i .offset);
+        };
+    clear = clear-noted z;
+    stays = stays-noted z;
+  }
 
 module _ {n k : ℕ} {z : Zone} where
   reads-sexp-rule : (d : ℕ) (cons : Reader Sexp)
@@ -248,8 +281,8 @@ module _ {n k : ℕ} {z : Zone} where
   reads-pattern-of (Name m) v = reads-bind _ (reads-up-to 1 (omega arith)) (reads-then Name refl (reads-name v))
   reads-pattern-of (Complex s) v = reads-bind _ (reads-up-to 1 (omega arith)) (reads-then Complex refl (reads-sexp v))
 
-reads-kind : {A : Type 0} {Q : Type 0} {n k : ℕ} {z : Zone} {bs : Bytes} {a : A} (f : Kind → Reader A) (x : Kind)
-    → Reads Q n k z (f x) bs a → Reads Q n k z (up-to 2 >>= λ y. f (kind-of y)) (kind-field x ++ bs) a
+reads-kind : {A : Type 0} {Q : Type 0} {y : Option ℕ} {n k : ℕ} {z : Zone} {bs : Bytes} {a : A} (f : Kind → Reader A) (x : Kind)
+    → Reads Q y n k z (f x) bs a → Reads Q (behind (length (kind-field x)) y) n k z (up-to 2 >>= λ b. f (kind-of b)) (kind-field x ++ bs) a
 unfolding kind-of kind-field
 reads-kind f Parallel s = reads-bind _ (reads-up-to 2 (omega arith)) s
 reads-kind f Sequential s = reads-bind _ (reads-up-to 2 (omega arith)) s
@@ -279,53 +312,6 @@ unfolding to-helpers helpers-list
 helpers-same []ʰ = refl
 helpers-same (h ∷ʰ hs) = ap (λ (x : Helpers). h ∷ʰ x) (helpers-same hs)
 
--- what is inside a BM is not searched
-still-in-mod : (k : Kind) → binding-zone k InMod ≡ InMod
-unfolding binding-zone
-still-in-mod Parallel = refl
-still-in-mod Sequential = refl
-still-in-mod Assign = refl
-
-mutual
-  unfolding NoMod Outside
-
-  body-in-mod : (b : Body) → NoMod InMod b
-  body-in-mod (BL k l w h bs b) = (rw (still-in-mod k) (bindings-in-mod bs), body-in-mod b)
-  body-in-mod (BQ s) = tt
-  body-in-mod (BV s) = tt
-  body-in-mod (BC l bs t) = (bodies-in-mod bs, tail-in-mod t)
-  body-in-mod (BM l f) = tt
-  body-in-mod (BF l w ca c a b) = (body-in-mod c, body-in-mod b)
-
-  bodies-in-mod : (bs : Bodies) → BodiesNoMod InMod bs
-  bodies-in-mod []ᵇ = tt
-  bodies-in-mod (b ∷ᵇ bs) = (body-in-mod b, bodies-in-mod bs)
-
-  tail-in-mod : (t : Tail) → TailNoMod InMod t
-  tail-in-mod no-tail = tt
-  tail-in-mod (tail b) = body-in-mod b
-
-  binding-in-mod : (b : Binding) → BindingNoMod InMod b
-  binding-in-mod (BB l nl p b) = body-in-mod b
-
-  bindings-in-mod : (bs : Bindings) → BindingsNoMod InMod bs
-  bindings-in-mod []ᵍ = tt
-  bindings-in-mod (b ∷ᵍ bs) = (binding-in-mod b, bindings-in-mod bs)
-
-  helper-in-mod : (h : Helper) → HelperNoMod InMod h
-  helper-in-mod (HC l n r b) = body-in-mod b
-  helper-in-mod (HM l n r a f) = form-in-mod f
-  helper-in-mod (HD l i n r a b) = body-in-mod b
-  helper-in-mod (HN l n r hs) = helpers-in-mod hs
-  helper-in-mod (HR l n r) = tt
-
-  helpers-in-mod : (hs : Helpers) → HelpersNoMod InMod hs
-  helpers-in-mod []ʰ = tt
-  helpers-in-mod (h ∷ʰ hs) = (helper-in-mod h, helpers-in-mod hs)
-
-  form-in-mod : (f : Form) → FormNoMod InMod f
-  form-in-mod (CF l r a hs b) = (helpers-in-mod hs, body-in-mod b)
-
 -- every record takes a level
 body-level : (b : Body) → 1 ≤ depth b
 unfolding depth
@@ -350,45 +336,51 @@ form-level (CF l r a hs b) = omega arith
 
 -- r reads the bytes of every tree back that the context has room for, if that is at most d levels
 pub record Complete (d : ℕ) (r : Readers) : Type 0 where
-  pub body : (n k : ℕ) (z : Zone) (b : Body) → n ≤ d → BodyFields b → depth b ≤ n → lambda-depth b ≤ k → Reads (NoMod z b) n k z (r .body) (body-bytes b) b
-  pub helper : (n k : ℕ) (z : Zone) (h : Helper) → n ≤ d → HelperFields h → helper-depth h ≤ n → helper-lambda-depth h ≤ k → Reads (HelperNoMod z h) n k z (r .helper) (helper-bytes h) h
-  pub form : (n k : ℕ) (z : Zone) (f : Form) → n ≤ d → FormFields f → form-depth f ≤ n → form-lambda-depth f ≤ k → Reads (FormNoMod z f) n k z (r .form) (form-bytes f) f
+  pub body : (n k : ℕ) (z : Zone) (b : Body) → n ≤ d → BodyFields b → depth b ≤ n → lambda-depth b ≤ k
+      → Reads (NoMod z b) (body-first z b) n k z (r .body) (body-bytes b) b
+  pub helper : (n k : ℕ) (z : Zone) (h : Helper) → n ≤ d → HelperFields h → helper-depth h ≤ n → helper-lambda-depth h ≤ k
+      → Reads (HelperNoMod z h) (helper-first z h) n k z (r .helper) (helper-bytes h) h
+  pub form : (n k : ℕ) (z : Zone) (f : Form) → n ≤ d → FormFields f → form-depth f ≤ n → form-lambda-depth f ≤ k
+      → Reads (FormNoMod z f) (form-first z f) n k z (r .form) (form-bytes f) f
 
 module _ (r : Readers) (d : ℕ) (e : Complete d r) where
   reads-bodies : (n k : ℕ) (z : Zone) (bs : Bodies) → n ≤ d → BodiesFields bs → bodies-depth bs ≤ n → bodies-lambda-depth bs ≤ k
-      → Reads (BodiesNoMod z bs) n k z (times (bodies-count bs) (r .body)) (bodies-bytes bs) (bodies-list bs)
-  unfolding BodiesFields bodies-depth bodies-lambda-depth BodiesNoMod bodies-count bodies-bytes bodies-list
+      → Reads (BodiesNoMod z bs) (bodies-first z bs) n k z (times (bodies-count bs) (r .body)) (bodies-bytes bs) (bodies-list bs)
+  unfolding BodiesFields bodies-depth bodies-lambda-depth BodiesNoMod bodies-first bodies-count bodies-bytes bodies-list
   reads-bodies n k z []ᵇ h v p q = reads-none _
   reads-bodies n k z (b ∷ᵇ bs) h v p q = reads-more _ _ (e .body n k z b h (v .0) (omega arith) (omega arith)) (reads-bodies n k z bs h (v .1) (omega arith) (omega arith))
 
   reads-helpers : (n k : ℕ) (z : Zone) (hs : Helpers) → n ≤ d → HelpersFields hs → helpers-depth hs ≤ n → helpers-lambda-depth hs ≤ k
-      → Reads (HelpersNoMod z hs) n k z (times (helpers-count hs) (r .helper)) (helpers-bytes hs) (helpers-list hs)
-  unfolding HelpersFields helpers-depth helpers-lambda-depth HelpersNoMod helpers-count helpers-bytes helpers-list
+      → Reads (HelpersNoMod z hs) (helpers-first z hs) n k z (times (helpers-count hs) (r .helper)) (helpers-bytes hs) (helpers-list hs)
+  unfolding HelpersFields helpers-depth helpers-lambda-depth HelpersNoMod helpers-first helpers-count helpers-bytes helpers-list
   reads-helpers n k z []ʰ h v p q = reads-none _
   reads-helpers n k z (x ∷ʰ hs) h v p q = reads-more _ _ (e .helper n k z x h (v .0) (omega arith) (omega arith)) (reads-helpers n k z hs h (v .1) (omega arith) (omega arith))
 
   pub reads-binding : (n k : ℕ) (z : Zone) (b : Binding) → n ≤ d → BindingFields b → binding-depth b ≤ n → binding-lambda-depth b ≤ k
-      → Reads (BindingNoMod z b) n k z (binding (r .body)) (binding-bytes b) b
-  unfolding BindingFields binding-depth binding-lambda-depth BindingNoMod binding binding-bytes record-bytes flatten choose same ascii
+      → Reads (BindingNoMod z b) (binding-first z b) n k z (binding (r .body)) (binding-bytes b) b
+  unfolding BindingFields binding-depth binding-lambda-depth BindingNoMod binding-first binding binding-bytes record-bytes flatten choose same ascii
   reads-binding n k z (BB l nl x b) h v p q = reads-marked _ "BB" refl
       (reads-bind _ (reads-loc (v .0)) (reads-bind _ (reads-loc (v .1)) (reads-bind _ (reads-pattern-of x (v .2)) (reads-last _ refl (e .body n k z b h (v .3) p q)))))
 
   reads-bindings : (n k : ℕ) (z : Zone) (bs : Bindings) → n ≤ d → BindingsFields bs → bindings-depth bs ≤ n → bindings-lambda-depth bs ≤ k
-      → Reads (BindingsNoMod z bs) n k z (times (bindings-count bs) (binding (r .body))) (bindings-bytes bs) (list-of bs)
-  unfolding BindingsFields bindings-depth bindings-lambda-depth BindingsNoMod bindings-count bindings-bytes list-of
+      → Reads (BindingsNoMod z bs) (bindings-first z bs) n k z (times (bindings-count bs) (binding (r .body))) (bindings-bytes bs) (list-of bs)
+  unfolding BindingsFields bindings-depth bindings-lambda-depth BindingsNoMod bindings-first bindings-count bindings-bytes list-of
   reads-bindings n k z []ᵍ h v p q = reads-none _
   reads-bindings n k z (b ∷ᵍ bs) h v p q = reads-more _ _ (reads-binding n k z b h (v .0) (omega arith) (omega arith)) (reads-bindings n k z bs h (v .1) (omega arith) (omega arith))
 
   reads-call-tail : (n k : ℕ) (z : Zone) (t : Tail) → n ≤ d → TailFields t → tail-depth t ≤ n → tail-lambda-depth t ≤ k
-      → Reads (TailNoMod z t) n k z (call-tail (r .body)) (tail-bytes t) t
-  unfolding TailFields tail-depth tail-lambda-depth TailNoMod call-tail tail-after tail-bytes byte
+      → Reads (TailNoMod z t) (tail-first z t) n k z (call-tail (r .body)) (tail-bytes t) t
+  unfolding TailFields tail-depth tail-lambda-depth TailNoMod tail-first call-tail tail-after tail-bytes byte
   reads-call-tail n k z no-tail h v p q = reads-bind _ (reads-up-to 1 (omega arith)) (reads-ret refl)
   reads-call-tail n k z (tail b) h v p q = reads-bind _ (reads-up-to 1 (omega arith)) (reads-then tail refl (e .body n k z b h v p q))
 
   -- a let after its kind byte
   reads-let-of : (n k : ℕ) (z : Zone) (x : Kind) (l : Loc) (w h : Bytes) (bs : Bindings) (b : Body)
       → n ≤ d → BodyFields (BL x l w h bs b) → depth (BL x l w h bs b) ≤ 1 + n → lambda-depth (BL x l w h bs b) ≤ k
-      → Reads (NoMod z (BL x l w h bs b)) n k z (let-of r x) (flatten (l ∷ w ∷ h ∷ byte (bindings-count bs) ∷ bindings-bytes bs ∷ body-bytes b ∷ [])) (BL x l w h bs b)
+      → Reads (NoMod z (BL x l w h bs b))
+      (first-in ((l, none) ∷ (w, none) ∷ (h, none) ∷ (byte (bindings-count bs), none) ∷ (bindings-bytes bs, bindings-first (binding-zone x z) bs)
+      ∷ (body-bytes b, body-first z b) ∷ []))
+      n k z (let-of r x) (flatten (l ∷ w ∷ h ∷ byte (bindings-count bs) ∷ bindings-bytes bs ∷ body-bytes b ∷ [])) (BL x l w h bs b)
   unfolding BodyFields depth lambda-depth NoMod let-of flatten
   reads-let-of n k z x l w h bs b c v p q =
       let t = levels-split x (bindings-count bs) in
@@ -396,8 +388,9 @@ module _ (r : Readers) (d : ℕ) (e : Complete d r) where
       (reads-both _ (reads-in-bindings x (reads-bindings _ k _ bs (omega arith) (v .4) (omega arith) (omega arith)))
       (reads-last _ (ap (λ (y : Bindings). BL x l w h y b) (bindings-same bs)) (e .body _ k z b (omega arith) (v .5) (omega arith) (omega arith))))))))
 
-  reads-body-rule : (n k : ℕ) (z : Zone) (b : Body) → n ≤ suc d → BodyFields b → depth b ≤ n → lambda-depth b ≤ k → Reads (NoMod z b) n k z (body-rule r) (body-bytes b) b
-  unfolding BodyFields depth lambda-depth NoMod body-rule body-bytes record-bytes flatten choose same ascii _>>_
+  reads-body-rule : (n k : ℕ) (z : Zone) (b : Body) → n ≤ suc d → BodyFields b → depth b ≤ n → lambda-depth b ≤ k
+      → Reads (NoMod z b) (body-first z b) n k z (body-rule r) (body-bytes b) b
+  unfolding BodyFields depth lambda-depth NoMod body-first body-rule body-bytes record-bytes flatten choose same ascii _>>_
   reads-body-rule n k z (BL x l w h bs b) c v p q = let t = body-level (BL x l w h bs b) in
       reads-marked _ "BL" refl (reads-deeper 1 (omega arith) (reads-kind (let-of r) x (reads-let-of (n - 1) k z x l w h bs b (omega arith) v (omega arith) q)))
   reads-body-rule n k z (BQ s) c v p q = reads-marked _ "BQ" refl (reads-deeper 1 p (reads-last _ refl (reads-sexp v)))
@@ -405,14 +398,16 @@ module _ (r : Readers) (d : ℕ) (e : Complete d r) where
   reads-body-rule n k z (BC l bs t) c v p q = reads-marked _ "BC" refl (reads-deeper 1 (omega arith)
       (reads-bind _ (reads-loc (v .0)) (reads-bind _ (reads-count (v .1)) (reads-both _ (reads-bodies (n - 1) k z bs (omega arith) (v .2) (omega arith) (omega arith))
       (reads-last _ (ap (λ (y : Bodies). BC l y t) (bodies-same bs)) (reads-call-tail (n - 1) k z t (omega arith) (v .3) (omega arith) (omega arith)))))))
-  reads-body-rule n k z (BM l f) c v p q = reads-marked _ "BM" refl (reads-deeper 1 (omega arith) (reads-so (λ o. (o, form-in-mod f)) (λ o. o .0)
-      (reads-both _ reads-note (reads-bind _ (reads-loc (v .0)) (reads-last _ refl (reads-in-zone (e .form (n - 1) k InMod f (omega arith) (v .1) (omega arith) q)))))))
+  reads-body-rule n k z (BM l f) c v p q = reads-noted _ "BM" _ refl refl (omega arith)
+      (reads-bind _ (reads-loc (v .0)) (reads-last _ refl (reads-in-zone
+      (reads-quiet (least-none (form-first InMod f) (form-least InMod f) (λ q k. k)) (e .form (n - 1) k InMod f (omega arith) (v .1) (omega arith) q)))))
   reads-body-rule n k z (BF l w ca x a b) c v p q = reads-marked _ "BF" refl (reads-deeper 1 (omega arith) (reads-in-lambda (omega arith)
       (reads-bind _ (reads-loc (v .0)) (reads-bind _ (reads-keyword (v .1)) (reads-bind _ (reads-sexp (v .2)) (reads-both _ (e .body (n - 1) (k - 1) z x (omega arith) (v .3) (omega arith) (omega arith))
       (reads-bind _ (reads-sexp (v .4)) (reads-last _ refl (e .body (n - 1) (k - 1) z b (omega arith) (v .5) (omega arith) (omega arith))))))))))
 
-  reads-helper-rule : (n k : ℕ) (z : Zone) (h : Helper) → n ≤ suc d → HelperFields h → helper-depth h ≤ n → helper-lambda-depth h ≤ k → Reads (HelperNoMod z h) n k z (helper-rule r) (helper-bytes h) h
-  unfolding HelperFields helper-depth helper-lambda-depth HelperNoMod helper-rule helper-bytes record-bytes flatten choose same ascii
+  reads-helper-rule : (n k : ℕ) (z : Zone) (h : Helper) → n ≤ suc d → HelperFields h → helper-depth h ≤ n → helper-lambda-depth h ≤ k
+      → Reads (HelperNoMod z h) (helper-first z h) n k z (helper-rule r) (helper-bytes h) h
+  unfolding HelperFields helper-depth helper-lambda-depth HelperNoMod helper-first helper-rule helper-bytes record-bytes flatten choose same ascii
   reads-helper-rule n k z (HC l m x b) c v p q = reads-marked _ "HC" refl (reads-deeper 1 (omega arith)
       (reads-bind _ (reads-loc (v .0)) (reads-bind _ (reads-name (v .1)) (reads-bind _ (reads-raw (v .2)) (reads-last _ refl (e .body (n - 1) k z b (omega arith) (v .3) (omega arith) q))))))
   reads-helper-rule n k z (HM l m x a f) c v p q = reads-marked _ "HM" refl (reads-deeper 1 (omega arith)
@@ -425,8 +420,9 @@ module _ (r : Readers) (d : ℕ) (e : Complete d r) where
       (reads-last _ (ap (λ (y : Helpers). HN l m x y) (helpers-same hs)) (reads-helpers (n - 1) k z hs (omega arith) (v .4) (omega arith) q)))))))
   reads-helper-rule n k z (HR l m x) c v p q = reads-marked _ "HR" refl (reads-deeper 1 p (reads-bind _ (reads-loc (v .0)) (reads-bind _ (reads-name (v .1)) (reads-last _ refl (reads-raw (v .2))))))
 
-  reads-form-rule : (n k : ℕ) (z : Zone) (f : Form) → n ≤ suc d → FormFields f → form-depth f ≤ n → form-lambda-depth f ≤ k → Reads (FormNoMod z f) n k z (form-rule r) (form-bytes f) f
-  unfolding FormFields form-depth form-lambda-depth FormNoMod form-rule form-bytes record-bytes flatten choose same ascii
+  reads-form-rule : (n k : ℕ) (z : Zone) (f : Form) → n ≤ suc d → FormFields f → form-depth f ≤ n → form-lambda-depth f ≤ k
+      → Reads (FormNoMod z f) (form-first z f) n k z (form-rule r) (form-bytes f) f
+  unfolding FormFields form-depth form-lambda-depth FormNoMod form-first form-rule form-bytes record-bytes flatten choose same ascii
   reads-form-rule n k z (CF l x a hs b) c v p q = reads-marked _ "CF" refl (reads-deeper 1 (omega arith)
       (reads-bind _ (reads-loc (v .0)) (reads-bind _ (reads-raw (v .1)) (reads-bind _ (reads-sexp (v .2)) (reads-bind _ (reads-count (v .3))
       (reads-both _ (reads-helpers (n - 1) k z hs (omega arith) (v .4) (omega arith) (omega arith))
@@ -446,12 +442,12 @@ complete-readers zero = complete-rules _ 0 (record {
 complete-readers (suc fuel) = complete-rules _ (suc fuel) (complete-readers fuel)
 
 reads-assign : (z : Zone) (l : Loc) (w h : Bytes) (bs : Bindings) (b : Body) → ValidBody (BL Assign l w h bs b)
-    → Reads (NoMod z (BL Assign l w h bs b)) level-limit lambda-limit z assign-of (body-bytes (BL Assign l w h bs b)) (BL Assign l w h bs b)
-unfolding assign-of body-bytes record-bytes flatten choose same ascii kind-field
+    → Reads (NoMod z (BL Assign l w h bs b)) (body-first z (BL Assign l w h bs b)) level-limit lambda-limit z assign-of (body-bytes (BL Assign l w h bs b)) (BL Assign l w h bs b)
+unfolding assign-of body-bytes body-first record-bytes flatten choose same ascii kind-field
 reads-assign z l w h bs b v = reads-marked _ "BL" refl (reads-deeper 1 (omega arith) (reads-bind _ (reads-next 2) (reads-check malformed refl
     (reads-let-of _ level-limit (complete-readers (level-limit - 1)) (level-limit - 1) lambda-limit z Assign l w h bs b (omega arith) (v .0) (omega arith) (v .2)))))
 
-pub reads-assign-of : (z : Zone) (b : Body) → ValidAssign b → Reads (NoMod z b) level-limit lambda-limit z assign-of (body-bytes b) b
+pub reads-assign-of : (z : Zone) (b : Body) → ValidAssign b → Reads (NoMod z b) (body-first z b) level-limit lambda-limit z assign-of (body-bytes b) b
 unfolding IsLet
 reads-assign-of z (BL x l w h bs b) (a, v) = rw a (reads-assign z l w h bs b (rw a at v))
 reads-assign-of z (BQ s) (a, v) = absurd a
@@ -460,24 +456,29 @@ reads-assign-of z (BC l bs t) (a, v) = absurd a
 reads-assign-of z (BM l f) (a, v) = absurd a
 reads-assign-of z (BF l w ca c x b) (a, v) = absurd a
 
--- bs is read whole as a; no BM is noted exactly if Q
-pub record WholeRead {A : Type 0} (Q : Type 0) (m : Reader A) (bs : Bytes) (a : A) : Type 0 where
-  pub first : Option ℕ
-  pub whole-read : read-whole m bs ≡ whole a first
-  pub clear : first ≡ none → Q
-  pub stays : Q → first ≡ none
+-- bs is read whole as a, and x is the first BM noted; none is noted exactly if Q
+pub record WholeRead {A : Type 0} (Q : Type 0) (x : Option ℕ) (m : Reader A) (bs : Bytes) (a : A) : Type 0 where
+  pub whole-read : read-whole m bs ≡ whole a x
+  pub clear : x ≡ none → Q
+  pub stays : Q → x ≡ none
 
-pub reads-whole-of : {A : Type 0} {Q : Type 0} {m : Reader A} {bs : Bytes} {a : A} → Reads Q level-limit lambda-limit Plain m bs a → WholeRead Q m bs a
+-- from the first byte on an offset is a place
+behind-zero : (x : Option ℕ) → behind 0 x ≡ x
+behind-zero none = refl
+behind-zero (some p) = let e : 0 + p ≡ p = omega arith in ap some e
+
+pub reads-whole-of : {A : Type 0} {Q : Type 0} {x : Option ℕ} {m : Reader A} {bs : Bytes} {a : A} → Reads Q x level-limit lambda-limit Plain m bs a
+    → WholeRead Q x m bs a
 unfolding read-whole left-over
-reads-whole-of {m} {bs} {a} s =
+reads-whole-of {x = x} {m} {bs} {a} s =
     let u = s .reads 0 (from-first bs) [] (sym (append-nil bs)) in
-    record { first = u .end .first-mod; whole-read = rw (u .ran, u .left, read-whole); clear = λ h. u .clear h .1; stays = λ q. u .stays refl q }
+    record { whole-read = rw (u .ran, u .left, read-whole) (ap (whole a) (u .notes ∙ behind-zero x)); clear = s .clear; stays = s .stays }
 
-pub form-complete : (t : Form) → ValidForm t → WholeRead (FormNoMod Plain t) (readers level-limit .form) (form-bytes t) t
+pub form-complete : (t : Form) → ValidForm t → WholeRead (FormNoMod Plain t) (form-first Plain t) (readers level-limit .form) (form-bytes t) t
 form-complete t v = reads-whole-of (complete-readers level-limit .form level-limit lambda-limit Plain t (omega arith) (v .0) (v .1) (v .2))
 
-pub helper-complete : (t : Helper) → ValidHelper t → WholeRead (HelperNoMod Plain t) (readers level-limit .helper) (helper-bytes t) t
+pub helper-complete : (t : Helper) → ValidHelper t → WholeRead (HelperNoMod Plain t) (helper-first Plain t) (readers level-limit .helper) (helper-bytes t) t
 helper-complete t v = reads-whole-of (complete-readers level-limit .helper level-limit lambda-limit Plain t (omega arith) (v .0) (v .1) (v .2))
 
-pub assign-complete : (t : Body) → ValidAssign t → WholeRead (NoMod Plain t) assign-of (body-bytes t) t
+pub assign-complete : (t : Body) → ValidAssign t → WholeRead (NoMod Plain t) (body-first Plain t) assign-of (body-bytes t) t
 assign-complete t v = reads-whole-of (reads-assign-of Plain t v)

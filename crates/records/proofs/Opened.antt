@@ -1,16 +1,18 @@
 -- A call that is refused before any work is refused by one of 1 to 4; and what is known of an input that is opened. Assumes nothing.
 use mathlib.Core.Path.{_≡_, refl}
 use mathlib.Core.Bool.{Bool, true, false, _&&_}
-use mathlib.Core.Option.{none, some}
-use Prim.Native.Nat.{ℕ, _*_, _≤_}
+use mathlib.Core.Option.{Option, none, some}
+use Prim.Native.Nat.{ℕ, _*_, _≤_, _<_}
 use native.Mathlib.Omega.{arith}
 use lib.Dec.{T, leb, leb→le}
 use lib.ListN.{length}
 use Rattle.names.specs.Names.{Bytes}
-use Rattle.names.specs.Refusals.{placeless}
+use Rattle.names.specs.Refusals.{place-at, no-place, refusing, placeless}
+use Rattle.names.specs.declared.Place.{Place}
 use Rattle.names.specs.CallAnswer.{max-counter}
 use Rattle.names.proofs.Same.{T-left, T-right}
 use Rattle.records.specs.Opened.{Opened, opened, closed, limits, no-mod, open-input}
+use Rattle.records.proofs.Readers.{T-of}
 use Rattle.records.specs.Limits.{least-longest, most-longest, work-factor}
 use Rattle.records.specs.Read.{Reader, Whole, whole, unread, malformed, over-limit, fault-number, read-whole}
 
@@ -30,27 +32,53 @@ within-limits F work c e =
     (leb→le F most-longest (T-right (leb least-longest F) (leb F most-longest) u), leb→le c max-counter (T-right (leb least-longest F && leb F most-longest && leb (work-factor * F) work) (leb c max-counter) t))
 
 module _ {A : Type 0} (reader : Reader A) (F work c : ℕ) (input : Bytes) where
+  -- the limits hold, the input is not longer than F, and it is read whole as a, with x as the first BM noted
+  pub record ReadAs (a : A) (x : Option ℕ) : Type 0 where
+    pub within : limits F work c ≡ true
+    pub size : length input ≤ F
+    pub read : read-whole reader input ≡ whole a x
+
+  -- what an input that is opened has passed, and one that is refused with 4
+  abbrev pub Through : Opened A → Type 0
+  Through (opened a) = ReadAs a none
+  Through (closed r) = (1 ≤ r .number) × (r .number ≤ 4) × (r .number ≡ 4 → (a : A) × (p : ℕ) × ReadAs a (some p) × (r .place ≡ place-at p))
+
+  -- a refusal by another number
+  by-other : (n : ℕ) (p : Place) → 1 ≤ n → n < 4 → Through (closed (refusing n p))
+  by-other n p l h = (l, omega arith, λ e. absurd (omega arith))
+
+  by-read : limits F work c ≡ true → length input ≤ F → (w : Whole A) → read-whole reader input ≡ w → Through (no-mod w)
+  unfolding no-mod fault-number
+  by-read l k (whole a none) e = record { within = l; size = k; read = e }
+  by-read l k (whole a (some p)) e = (omega arith, omega arith, λ _. (a, p, record { within = l; size = k; read = e }, refl))
+  by-read l k (unread malformed p) e = by-other 2 p (omega arith) (omega arith)
+  by-read l k (unread over-limit p) e = by-other 3 p (omega arith) (omega arith)
+
+  pub through : Through (open-input reader F work c input)
+  unfolding open-input
+  through = by-limits (limits F work c) refl
+    where
+      by-length : limits F work c ≡ true → (b : Bool) → leb (length input) F ≡ b
+          → Through (elim b as (λ _. Opened A) [ false ↦ closed (placeless 3) | true ↦ no-mod (read-whole reader input) ])
+      by-length l true e = by-read l (leb→le (length input) F (T-of e)) (read-whole reader input) refl
+      by-length l false e = by-other 3 no-place (omega arith) (omega arith)
+
+      by-limits : (b : Bool) → limits F work c ≡ b
+          → Through (elim b as (λ _. Opened A) [
+            | false ↦ closed (placeless 1)
+            | true ↦ elim (leb (length input) F) [ false ↦ closed (placeless 3) | true ↦ no-mod (read-whole reader input) ]
+          ])
+      by-limits true e = by-length e (leb (length input) F) refl
+      by-limits false e = by-other 1 no-place (omega arith) (omega arith)
+
+  -- what is known before any work
   abbrev pub Start : Opened A → Type 0
   Start (opened a) = OpenedFrom reader F c input a
   Start (closed r) = (1 ≤ r .number) × (r .number ≤ 4)
 
-  start-read : F ≤ most-longest → c ≤ max-counter → length input ≤ F → (w : Whole A) → read-whole reader input ≡ w → Start (no-mod w)
-  unfolding no-mod fault-number
-  start-read p q l (whole a none) e = record { longest = p; counter = q; size = l; read = e }
-  start-read p q l (whole a (some m)) e = (omega arith, omega arith)
-  start-read p q l (unread malformed m) e = (omega arith, omega arith)
-  start-read p q l (unread over-limit m) e = (omega arith, omega arith)
-
   pub start : Start (open-input reader F work c input)
-  unfolding open-input
-  start = go (limits F work c) refl
+  start = go (open-input reader F work c input) through
     where
-      go₂ : (F ≤ most-longest) × (c ≤ max-counter) → (b : Bool) → leb (length input) F ≡ b
-          → Start (elim b as (λ _. Opened A) [ false ↦ closed (placeless 3) | true ↦ no-mod (read-whole reader input) ])
-      go₂ h true e = let t : T (leb (length input) F) = rw e tt in start-read (h .0) (h .1) (leb→le (length input) F t) (read-whole reader input) refl
-      go₂ h false e = (omega arith, omega arith)
-
-      go : (b : Bool) → limits F work c ≡ b
-          → Start (elim b as (λ _. Opened A) [ false ↦ closed (placeless 1) | true ↦ elim (leb (length input) F) [ false ↦ closed (placeless 3) | true ↦ no-mod (read-whole reader input) ] ])
-      go true e = go₂ (within-limits F work c e) (leb (length input) F) refl
-      go false e = (omega arith, omega arith)
+      go : (o : Opened A) → Through o → Start o
+      go (opened a) h = let l = within-limits F work c (h .within) in record { longest = l .0; counter = l .1; size = h .size; read = h .read }
+      go (closed r) h = (h .0, h .1)

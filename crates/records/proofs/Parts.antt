@@ -1,6 +1,7 @@
 -- Where the reader comes to over the bytes of a tree. Assumes nothing.
 use mathlib.Core.Path.{_≡_, refl, ap, sym, _∙_}
 use mathlib.Core.List.{List, [], _∷_}
+use mathlib.Core.Option.{Option}
 use Prim.Native.Nat.{ℕ, _+_, _-_, _≤_, _<_}
 use native.Mathlib.Nat.{zero-add}
 use native.Mathlib.Omega.{arith}
@@ -25,9 +26,9 @@ use Rattle.names.proofs.Places.{at-left, at-right}
 use Rattle.names.proofs.Parts.{into}
 use Rattle.records.proofs.Places.{at-split}
 
-module _ {A : Type 0} {Q : Type 0} {m : Reader A} {mark n k : ℕ} {z : Zone} {s bs : Bytes} {a : A} {c r : Scan} where
+module _ {A : Type 0} {Q : Type 0} {x : Option ℕ} {m : Reader A} {mark n k : ℕ} {z : Zone} {s bs : Bytes} {a : A} {c r : Scan} where
   -- a reading goes on over the bytes of a tree that is read back
-  pub goes-past : Reads Q n k z m bs a → c .refusal .number ≡ 0 → Comes m (context mark n k z) s c r → At s (c .at) bs → r .at ≡ c .at + length bs
+  pub goes-past : Reads Q x n k z m bs a → c .refusal .number ≡ 0 → Comes m (context mark n k z) s c r → At s (c .at) bs → r .at ≡ c .at + length bs
   unfolding scan-of input-at
   goes-past e q g h =
       let u = e .reads mark (input-at mark s c) _ (at-split h) in

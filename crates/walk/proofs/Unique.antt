@@ -3,7 +3,7 @@
 use mathlib.Core.Path.{_≡_, refl, sym, ap, subst, _∙_}
 use mathlib.Core.Bool.{Bool}
 use mathlib.Core.List.{List, [], _∷_, _++_}
-use mathlib.Core.Option.{none}
+use mathlib.Core.Option.{Option, none}
 use native.Mathlib.Omega.{arith}
 use Prim.Native.Nat.{ℕ, suc, _+_, _-_}
 use lib.ListN.{length, drop, take-append-drop, length-append}
@@ -28,7 +28,7 @@ use Rattle.walk.specs.Walking.{Fine, Ready, Tells}
 use Rattle.walk.specs.declared.Task.{Task}
 
 -- two trees that one reader reads from the same bytes are one
-same-tree : {A : Type 0} {P Q : Type 0} {n k : ℕ} {m : Reader A} {a b : A} {bs cs : Bytes} (xs ys : Bytes) → Reads P n k Plain m bs a → Reads Q n k Plain m cs b
+same-tree : {A : Type 0} {P Q : Type 0} {o p : Option ℕ} {n k : ℕ} {m : Reader A} {a b : A} {bs cs : Bytes} (xs ys : Bytes) → Reads P o n k Plain m bs a → Reads Q p n k Plain m cs b
     → bs ++ xs ≡ cs ++ ys → a ≡ b
 same-tree {a = a} {b = b} {bs} xs ys r s e =
     let i : Input = record { rest = bs ++ xs; offset = 0; first-mod = none } in
@@ -47,7 +47,7 @@ abbrev pub Unique : {A : Type 0} → (A → Bytes) → (A → Type 0) → Type 0
 Unique {A} bytes Good = (xs : Bytes) (a b : A) → Good a → Good b → At xs 0 (bytes a) → At xs 0 (bytes b) → a ≡ b
 
 -- two trees that one reader reads at the start are one
-pub unique-by : {A : Type 0} {P Q : Type 0} {n k : ℕ} {m : Reader A} {a b : A} {xs bs cs : Bytes} → Reads P n k Plain m bs a → Reads Q n k Plain m cs b → At xs 0 bs → At xs 0 cs → a ≡ b
+pub unique-by : {A : Type 0} {P Q : Type 0} {o p : Option ℕ} {n k : ℕ} {m : Reader A} {a b : A} {xs bs cs : Bytes} → Reads P o n k Plain m bs a → Reads Q p n k Plain m cs b → At xs 0 bs → At xs 0 cs → a ≡ b
 unique-by r s x y = same-tree _ _ r s (sym (at-front-of x) ∙ at-front-of y)
 
 -- two pairs of the same parts are one

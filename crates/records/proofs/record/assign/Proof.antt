@@ -11,45 +11,70 @@ use Rattle.records.proofs.AssignLaws.{assign-unknown, assign-stop, assi
 use Rattle.records.proofs.record.assign.Statement.{statement}
 use Rattle.records.proofs.record.assign.Tie as tie
 
+-- from a place back to an earlier one
+abbrev start : tie.After-bytes → tie.Start
+start c = c .before .before
+
+abbrev marked : tie.After-is-word → tie.After-bytes
+marked c = c .before .before
+
+abbrev read : tie.After-shared-slice-known2 → tie.After-bytes2
+read c = c .before .before .before
+
 returns : tie.Need-returns
 unfolding ascii
-returns c = rw (c .refused .ensures)
-    (assign-unknown (c .before .before .before .before .before .before .pre .0 .0) (c .before .before .before .before .bytes .ensures)
-    (c .before .before .before .before .before .before .pre .0 .1) (sym (c .before .before .is-word .ensures) ∙ not-true _ (c .before .if1 .taken)))
+returns c =
+    let w = c .before .before in
+    let b = marked w in
+    let p = start b .pre .0 in
+    rw (c .refused .ensures) (assign-unknown (p .0) (b .bytes .ensures) (p .1) (sym (w .is-word .ensures) ∙ not-true _ (c .before .if1 .taken)))
 
 returns-2 : tie.Need-returns-2
 unfolding ascii
 returns-2 c =
-    let a = c .before .before .before in
-    assign-stop (a .before .before .before .before .before .pre .0 .0) (a .before .before .before .bytes .ensures)
-    (sym (a .before .is-word .ensures) ∙ not-false _ (a .if1 .left)) (a .before .before .before .before .before .pre .1 .1) (c .before .before .bytes2 .ensures) (c .if2 .taken)
+    let r = c .before .before in
+    let e = r .before in
+    let w = e .before in
+    let b = marked w in
+    let p = start b .pre in
+    assign-stop (p .0 .0) (b .bytes .ensures) (sym (w .is-word .ensures) ∙ not-false _ (e .if1 .left)) (p .1 .1) (r .bytes2 .ensures) (c .if2 .taken)
 
 shared-slice-read-if3 : tie.Need-shared-slice-read-if3
 shared-slice-read-if3 c =
-    byte-there exact-next (c .before .before .before .before .before .before .before .bytes .ensures .within) (one-byte (c .before .before .before .bytes2 .ensures)) (c .before .if2 .left)
+    let r = read c in
+    byte-there exact-next (marked (r .before .before) .bytes .ensures .within) (one-byte (r .bytes2 .ensures)) (c .before .if2 .left)
 
 returns-3 : tie.Need-returns-3
 unfolding ascii
 returns-3 c =
-    let a = c .before .before .before .before .before .before in
+    let z = c .before .before in
+    let r = read z in
+    let e = r .before in
+    let w = e .before in
+    let b = marked w in
+    let p = start b .pre in
     rw (c .refused2 .ensures)
-    (assign-other (a .before .before .before .before .before .pre .0 .0) (a .before .before .before .bytes .ensures)
-    (sym (a .before .is-word .ensures) ∙ not-false _ (a .if1 .left)) (a .before .before .before .before .before .pre .1 .1) (c .before .before .before .before .before .bytes2 .ensures)
-    (c .before .before .before .if2 .left) (c .before .if3 .taken))
+    (assign-other (p .0 .0) (b .bytes .ensures) (sym (w .is-word .ensures) ∙ not-false _ (e .if1 .left)) (p .1 .1) (r .bytes2 .ensures)
+    (z .before .if2 .left) (c .before .if3 .taken))
 
 let-after-requires : tie.Need-let-after-requires
-let-after-requires c κs = (
-  c .before .before .before .before .before .bytes2 .ensures .within,
-  omega (arith, ap (λ (x : Context). x .mark) (c .down .ensures), c .before .before .before .before .before .before .before .before .before .before .before .pre .1 .0),
-)
+let-after-requires c κs =
+    let r = read (c .before .before) in
+    let p = start (marked (r .before .before)) .pre in
+    (r .bytes2 .ensures .within, omega (arith, ap (λ (x : Context). x .mark) (c .down .ensures), p .1 .0))
 
 returns-4 : tie.Need-returns-4
 unfolding ascii
 returns-4 c =
-    let a = c .before .before .before .before .before .before .before in
-    assign-there (a .before .before .before .before .before .pre .0 .0) (a .before .before .before .bytes .ensures)
-    (sym (a .before .is-word .ensures) ∙ not-false _ (a .if1 .left)) (a .before .before .before .before .before .pre .1 .1) (c .before .before .before .before .before .before .bytes2 .ensures)
-    (c .before .before .before .before .if2 .left) (c .before .before .if3 .left) (rw (c .before .down .ensures) at (c .let-after .ensures))
+    let d = c .before in
+    let z = d .before .before in
+    let r = read z in
+    let e = r .before in
+    let w = e .before in
+    let b = marked w in
+    let p = start b .pre in
+    assign-there (p .0 .0) (b .bytes .ensures) (sym (w .is-word .ensures) ∙ not-false _ (e .if1 .left)) (p .1 .1) (r .bytes2 .ensures)
+    (z .before .if2 .left) (d .before .if3 .left) (rw (d .down .ensures) at (c .let-after .ensures))
 
 pub assign-spec : {M : Type 1} → statement M
 assign-spec =

@@ -8,26 +8,34 @@ use Rattle.records.proofs.SexpLaws.{pattern-stop, pattern-name, pattern
 use Rattle.records.proofs.record.pattern.Statement.{statement}
 use Rattle.records.proofs.record.pattern.Tie as tie
 
+-- from a place back to an earlier one
+abbrev start : tie.After-at-most → tie.Start
+start c = c .before .before
+
+abbrev checked : tie.After-shared-slice-known2 → tie.After-at-most
+checked c = c .before .before .before
+
 returns : tie.Need-returns
 unfolding fault-number
-returns c = pattern-stop (c .before .before .before .before .pre .0) (c .before .before .at-most .ensures .0 malformed refl) (c .if1 .taken)
+returns c = let a = c .before .before in pattern-stop (start a .pre .0) (a .at-most .ensures .0 malformed refl) (c .if1 .taken)
 
 shared-slice-read-if2 : tie.Need-shared-slice-read-if2
 unfolding fault-number
-shared-slice-read-if2 c =
-    byte-there (exact-up-to 1) (c .before .before .before .before .before .pre .0) (c .before .before .before .at-most .ensures .0 malformed refl) (c .before .if1 .left)
+shared-slice-read-if2 c = let a = checked c in byte-there (exact-up-to 1) (start a .pre .0) (a .at-most .ensures .0 malformed refl) (c .before .if1 .left)
 
 returns-2 : tie.Need-returns-2
 unfolding fault-number
 returns-2 c =
-    pattern-name (c .before .before .before .before .before .before .before .pre .0) (c .before .before .before .before .before .at-most .ensures .0 malformed refl)
-    (c .before .before .before .if1 .left) (c .before .if2 .taken) (c .name .ensures)
+    let z = c .before .before in
+    let a = checked z in
+    pattern-name (start a .pre .0) (a .at-most .ensures .0 malformed refl) (z .before .if1 .left) (c .before .if2 .taken) (c .name .ensures)
 
 returns-3 : tie.Need-returns-3
 unfolding fault-number
 returns-3 c =
-    pattern-complex (c .before .before .before .before .before .before .before .pre .0) (c .before .before .before .before .before .at-most .ensures .0 malformed refl)
-    (c .before .before .before .if1 .left) (c .before .if2 .left) (c .child-sexp .ensures)
+    let z = c .before .before in
+    let a = checked z in
+    pattern-complex (start a .pre .0) (a .at-most .ensures .0 malformed refl) (z .before .if1 .left) (c .before .if2 .left) (c .child-sexp .ensures)
 
 pub pattern-spec : {M : Type 1} → statement M
 pattern-spec =
