@@ -26,7 +26,7 @@ use Rattle.records.specs.declared.SexpView.the-variants.{Nil, Pair, Unkn
 use Rattle.records.proofs.AnySexp.{Leaf, integer, text, name, leaf-places, unseen}
 use Rattle.records.proofs.Lists.{listed-bodies, listed-bindings, listed-helpers}
 use Rattle.records.proofs.Runs.{counted, bytes-of, records-of, begins, ended, over, past, joins, past-adds, begun-past, then, adds-listed}
-use Rattle.records.proofs.Views.{ByteAt, byte-is, byte-length, kind-length, first-of, rest-of}
+use Rattle.records.proofs.Views.{ByteAt, tag-is, byte-length, kind-length, first-of, rest-of}
 
 -- r has the length and the number of records of t
 abbrev pub Told : (p : Part) → (p .0 → ℕ) → Bytes → Counted → p .0 → Type 0
@@ -65,11 +65,6 @@ module _ {s : Bytes} (m : String) (fs : List Bytes) (ms : List String) (k : ℕ)
       let w = at-left (ascii m) (flatten fs) a .there in
       let x : take mark-width (drop 0 s) ≡ ascii m = rw q at w in
       ap (λ (y : Bytes). mark-index y ms) x ∙ e
-
--- what the byte before a pattern or a tail is
-tag-is : {s : Bytes} {at tag : ℕ} → ByteAt s at tag → (k : ℕ) (bs : Bytes) → At s at (k ∷ bs) → tag ≡ k
-unfolding byte
-tag-is b k bs a = byte-is b k (at-left (k ∷ []) bs a)
 
 module _ {s : Bytes} {c : Counted} {at tag : ℕ} (b : ByteAt s (c .end) tag) (x : Past (fixed-part 1) s (c .end) at) where
   pub name-adds : {end : ℕ} → Begun s c → tag ≡ 0 → Past name-part s at end → CountsOn pattern-part pattern-records s c (counted (c .count) end)

@@ -1,17 +1,13 @@
 -- What stands at a place of a list of bytes. Assumes nothing.
 use mathlib.Core.Path.{_≡_, ap, sym, _∙_}
-use mathlib.Core.List.{[], _∷_, _++_}
+use mathlib.Core.List.{[], _∷_}
 use Prim.Native.Nat.{ℕ, suc, _<_}
 use native.Mathlib.Omega.{arith}
-use lib.ListN.{length, take, drop, getD, take-append-drop}
+use lib.ListN.{length, take, drop, getD}
 use lib.Seq.{drop-cons}
 use Rattle.names.specs.Names.{Bytes}
 use Rattle.names.specs.Segments.{At}
 use Rattle.records.specs.Records.{byte}
-
--- what stands at a place, and what follows
-pub at-split : {s : Bytes} {p : ℕ} {bs : Bytes} → At s p bs → drop p s ≡ bs ++ drop (length bs) (drop p s)
-at-split {s} {p} {bs} a = sym (take-append-drop (length bs) (drop p s)) ∙ ap (λ (x : Bytes). x ++ drop (length bs) (drop p s)) (a .there)
 
 module _ {s : Bytes} {p : ℕ} (b : ℕ) where
   -- one byte that stands at a place

@@ -105,6 +105,11 @@ ByteAt s at r = r ≡ getD s at 0
 pub byte-is : {s : Bytes} {at r : ℕ} → ByteAt s at r → (b : ℕ) → At s at (byte b) → r ≡ b
 byte-is h b a = h ∙ byte-there b a
 
+-- the byte before a pattern, a tail or an L
+pub tag-is : {s : Bytes} {at tag : ℕ} → ByteAt s at tag → (k : ℕ) (bs : Bytes) → At s at (k ∷ bs) → tag ≡ k
+unfolding byte
+tag-is b k bs a = byte-is b k (at-left (k ∷ []) bs a)
+
 -- the kind byte of a let
 pub kind-at : {s : Bytes} {at r : ℕ} → ByteAt s at r → (k : Kind) → At s at (kind-field k) → kind-of r ≡ k
 unfolding kind-of kind-field

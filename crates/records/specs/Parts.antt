@@ -1,18 +1,19 @@
 -- What can be stepped over: the trees of each kind, their bytes, and which of them are within the format's limits.
 -- Assumes nothing.
 use mathlib.Core.Path.{_≡_}
-use mathlib.Core.List.{List}
+use mathlib.Core.List.{List, _++_}
+use mathlib.Core.Logic.{_⊎_}
 use Prim.Native.Nat.{ℕ, _+_, _≤_, _<_}
 use lib.ListN.{length}
-use Rattle.names.specs.Names.{Bytes, name-field}
+use Rattle.names.specs.Names.{Bytes, number-of, name-field}
 use Rattle.names.specs.Segments.{At}
 use Rattle.records.specs.declared.Family.{Family}
 use Rattle.records.specs.declared.Family.the-variants.{Body as a-body, Binding as a-binding, Helper as a-helper, Form as a-form}
 use Rattle.records.specs.Depth.{bodies-depth, binding-depth, bindings-depth, helpers-depth}
 use Rattle.records.specs.Lists.{joined, Each}
 use Rattle.records.specs.Limits.{level-limit, lambda-limit}
-use Rattle.records.specs.Records.{Sexp, sexp-bytes, Pattern, pattern-field, Body, body-bytes, Bodies, bodies-bytes, bodies-count, Binding, binding-bytes, Bindings, bindings-bytes, bindings-count, Helper, helper-bytes, Helpers, helpers-bytes, helpers-count, Form, form-bytes}
-use Rattle.records.specs.Valid.{ValidName, ValidRaw, ValidKeyword, ValidHint, SexpFields, ValidSexp, ValidPattern, BodiesFields, BindingFields, BindingsFields, HelpersFields, bodies-lambda-depth, binding-lambda-depth, bindings-lambda-depth, helpers-lambda-depth, ValidBody, ValidHelper, ValidForm}
+use Rattle.records.specs.Records.{byte, Sexp, sexp-bytes, Pattern, pattern-field, Body, body-bytes, Bodies, bodies-bytes, bodies-count, Binding, binding-bytes, Bindings, bindings-bytes, bindings-count, Helper, helper-bytes, Helpers, helpers-bytes, helpers-count, Form, form-bytes}
+use Rattle.records.specs.Valid.{WithLoc, ValidName, ValidRaw, ValidKeyword, ValidHint, SexpFields, ValidSexp, ValidPattern, BodiesFields, BindingFields, BindingsFields, HelpersFields, bodies-lambda-depth, binding-lambda-depth, bindings-lambda-depth, helpers-lambda-depth, ValidBody, ValidHelper, ValidForm}
 
 -- trees, their bytes, and which of them are meant
 abbrev pub Part : Type 1
@@ -36,9 +37,15 @@ sexp-part = (Sexp, sexp-bytes, ValidSexp)
 abbrev pub fields-part : Part
 fields-part = (Sexp, sexp-bytes, SexpFields)
 
--- the fields: so many bytes, a name, R, K, a hint, a pattern
+-- the fields: so many bytes; a length of w bytes, and that many bytes; a byte, with an L behind it from `least` on; a name, R, K, a hint, a pattern
 abbrev pub fixed-part : ℕ → Part
 fixed-part w = (Bytes, (λ x. x), λ x. length x ≡ w)
+
+abbrev pub counted-part : ℕ → Part
+counted-part w = (Bytes, (λ x. x), λ x. (b : Bytes) × (bs : Bytes) × (length b ≡ w) × (length bs ≡ number-of b) × (x ≡ b ++ bs))
+
+abbrev pub optional-part : ℕ → Part
+optional-part least = (Bytes, (λ x. x), λ x. ((b : ℕ) × (b < least) × (x ≡ byte b)) ⊎ ((b : ℕ) × (least ≤ b) × WithLoc b x))
 
 abbrev pub name-part : Part
 name-part = (Bytes, name-field, ValidName)

@@ -1,21 +1,18 @@
 // Where a field that stands at a place ends, and what stands there.
 use crate::HEAD_WIDTH;
 use crate::INTEGER_WIDTH;
+use crate::LOC_WIDTH;
 use crate::NameView;
+use crate::RAW_WIDTH;
 use crate::TaggedView;
-use crate::fields::hint;
-use crate::fields::keyword;
-use crate::fields::name;
-use crate::fields::raw;
-use crate::record::pattern;
-use crate::start::from_place;
+use crate::skip::past_sexp;
 use names::NAME_WIDTH;
 use names::bytes::number;
 ghost use mathlib.Core.Path.{_≡_};
 ghost use Prim.Native.Nat.{_≤_};
 ghost use lib.ListN.{length, getD};
 ghost use Rattle.records.specs.Views.{PastHead, SeesCounted, SeesName, SeesInteger, SeesTagged};
-ghost use Rattle.records.specs.Parts.{name-part, raw-part, keyword-part, hint-part, pattern-part, Past, PastBytes};
+ghost use Rattle.records.specs.Parts.{name-part, counted-part, raw-part, optional-part, keyword-part, hint-part, pattern-part, Past, PastBytes};
 
 // So many bytes; where they are missing, the end of the bytes.
 pub fn past_bytes(s: &[u8], at: usize, n: usize) -> usize
@@ -43,8 +40,8 @@ pub fn past_name(s: &[u8], at: usize) -> usize
     requires { ⌜ at ≤ length (now s) ⌝ }
     ensures { λ r. ⌜ Past name-part (now (s .entry)) at r ⌝ }
 {
-    let r = name(s, 0, from_place(at));
-    r.at
+    let v = name_view(s, at);
+    v.end
 }
 
 // A field that is only copied.
@@ -52,8 +49,20 @@ pub fn past_raw(s: &[u8], at: usize) -> usize
     requires { ⌜ at ≤ length (now s) ⌝ }
     ensures { λ r. ⌜ Past raw-part (now (s .entry)) at r ⌝ }
 {
-    let r = raw(s, 0, from_place(at));
-    r.at
+    let v = counted_view(s, at, RAW_WIDTH);
+    v.end
+}
+
+// A byte, with a location behind it from `least` on.
+fn past_optional(s: &[u8], at: usize, least: u8) -> usize
+    requires { ⌜ at ≤ length (now s) ⌝ }
+    ensures { λ r. ⌜ Past (optional-part least) (now (s .entry)) at r ⌝ }
+{
+    let next = past_bytes(s, at, 1);
+    if byte_at(s, at) < least {
+        return next;
+    }
+    past_bytes(s, next, LOC_WIDTH)
 }
 
 // The optional keyword.
@@ -61,8 +70,7 @@ pub fn past_keyword(s: &[u8], at: usize) -> usize
     requires { ⌜ at ≤ length (now s) ⌝ }
     ensures { λ r. ⌜ Past keyword-part (now (s .entry)) at r ⌝ }
 {
-    let r = keyword(s, 0, from_place(at));
-    r.at
+    past_optional(s, at, 1)
 }
 
 // The hint of a let.
@@ -70,8 +78,7 @@ pub fn past_hint(s: &[u8], at: usize) -> usize
     requires { ⌜ at ≤ length (now s) ⌝ }
     ensures { λ r. ⌜ Past hint-part (now (s .entry)) at r ⌝ }
 {
-    let r = hint(s, 0, from_place(at));
-    r.at
+    past_optional(s, at, 2)
 }
 
 // What a binding binds.
@@ -79,8 +86,11 @@ pub fn past_pattern(s: &[u8], at: usize) -> usize
     requires { ⌜ at ≤ length (now s) ⌝ }
     ensures { λ r. ⌜ Past pattern-part (now (s .entry)) at r ⌝ }
 {
-    let r = pattern(s, 0, from_place(at));
-    r.at
+    let v = tagged_view(s, at);
+    if v.tag == 0 {
+        return past_name(s, v.next);
+    }
+    past_sexp(s, v.next)
 }
 
 // The byte at a place; past the end, 0.
@@ -98,6 +108,7 @@ pub fn byte_at(s: &[u8], at: usize) -> u8
 fn counted_view(s: &[u8], at: usize, width: usize) -> NameView
     requires { ⌜ (at ≤ length (now s)) × (width ≤ 8) ⌝ }
     ensures { λ r. ⌜ SeesCounted width (now (s .entry)) at r ⌝ }
+    ensures { λ r. ⌜ Past (counted-part width) (now (s .entry)) at (r .end) ⌝ }
 {
     let end = s.len();
     if end - at < width {

@@ -145,7 +145,7 @@ fn noted(s: &[u8], x: Context, c: Scan) -> Scan
 }
 
 // A Name or a Complex pattern.
-pub fn pattern(s: &[u8], mark: usize, c: Scan) -> Scan
+fn pattern(s: &[u8], mark: usize, c: Scan) -> Scan
     requires { ⌜ c .at ≤ length (now s) ⌝ }
     requires { ⌜ mark + length (now s) < 2 ^ 64 ⌝ }
     ensures { λ r. ⌜ Reads pattern-of mark (now (s .entry)) c r ⌝ }
