@@ -1,22 +1,21 @@
--- Worked cases, by computation: one table of calls and what each answers; the edges of the refusals 6, 7 and 8; and lists of reached assigns.
+-- Worked cases, by computation: what all tables of cases are written in; one table of calls and what each answers; and the edges of the refusals 6, 7 and 8.
+-- The other tables stand in CasesOfFields, CasesOfRules, CasesOfSums and CasesOfLists.
 -- Assumes nothing.
 use mathlib.Core.Path.{_≡_, refl}
 use mathlib.Core.List.{List, [], _∷_, _++_, map}
-use mathlib.Core.Option.{Option, none, some}
 use Prim.Native.Nat.{ℕ}
 use Prim.Native.String.{String}
 use lib.ListN.{length, replicate, take}
 use Rattle.names.specs.Names.{Bytes, ascii}
-use Rattle.records.specs.Records.{Loc, Sexp, SN, SC, SI, SA, Kind, Parallel, Sequential, Assign, Name, Complex, Body, BL, BV, BC, BM, BF, []ᵇ, _∷ᵇ_, no-tail, Binding, BB, []ʰ, CF, to-bodies, to-bindings, body-bytes, form-bytes}
-use Rattle.walk.specs.Steps.{Visit, events, names-made}
-use Rattle.walk.specs.Calls.{computing-all, whole-run, whole-call, children-call, children-visits}
+use Rattle.records.specs.Records.{Loc, Sexp, SN, SC, SI, SA, Kind, Parallel, Sequential, Assign, Name, Complex, Body, BL, BV, BC, BF, no-tail, Binding, BB, Helper, HC, HM, HD, HN, Form, CF, to-bodies, to-bindings, to-helpers, body-bytes, helper-bytes, form-bytes}
+use Rattle.walk.specs.Calls.{computing-all, whole-call, children-call, helper-call}
 use Rattle.names.specs.CallAnswer.{Result, name-call}
 use Rattle.ordering.specs.OrderCall.{order-call}
 
--- a call, its counter and its input; `whole-in` has F and the length of the buffer first
+-- a call, its counter and its input; those in -in have F and the length of the buffer first
 pub data Call : Type 0 where
-  name order whole : ℕ → Bytes → Call
-  whole-in : ℕ → ℕ → ℕ → Bytes → Call
+  name order whole children single : ℕ → Bytes → Call
+  whole-in children-in single-in : ℕ → ℕ → ℕ → Bytes → Call
 
 -- a buffer of zeros
 abbrev pub room : ℕ → Bytes
@@ -26,7 +25,11 @@ abbrev pub answer : Call → Result
 answer (name c n) = name-call n c (room 1024)
 answer (order c r) = order-call 1024 262144 c r (room 1024)
 answer (whole c r) = whole-call 1024 262144 c r (room 1024)
+answer (children c r) = children-call 1024 262144 c r (room 1024)
+answer (single c r) = helper-call 1024 262144 c r (room 1024)
 answer (whole-in F n c r) = whole-call F 262144 c r (room n)
+answer (children-in F n c r) = children-call F 262144 c r (room n)
+answer (single-in F n c r) = helper-call F 262144 c r (room n)
 
 -- number, place, counter, and the bytes written
 abbrev pub Seen : Type 0
@@ -63,9 +66,58 @@ complex s b = BB at at (Complex s) b
 abbrev pub let-of : Kind → List Binding → Body → Body
 let-of k bs b = BL k at (0 ∷ []) (0 ∷ []) (to-bindings bs) b
 
+-- let n = 1 around this
+abbrev pub let-one : String → Body → Body
+let-one n b = let-of Parallel (named n (number 1) ∷ []) b
+
+-- a call without a tail
+abbrev pub call : List Body → Body
+call bs = BC at (to-bodies bs) no-tail
+
+-- a body that is nil
+abbrev pub nil : Body
+nil = BV (SN at)
+
+-- a lambda with these args, and without captures
+abbrev pub lambda : Sexp → Body → Body
+lambda a b = BF at (0 ∷ []) (SN at) nil a b
+
+-- a lambda without args
+abbrev pub thunk : Body → Body
+thunk b = lambda (SN at) b
+
+-- a lambda whose captures are this: Own keeps them, In-body takes them
+abbrev pub captures : Body → Body
+captures b = BF at (0 ∷ []) (SN at) b (SN at) nil
+
+-- an R of no bytes
+abbrev pub no-raw : Bytes
+no-raw = 0 ∷ 0 ∷ []
+
+-- helpers: a constant c, a function f, a macro m and a namespace n
+abbrev pub constant : Body → Helper
+constant b = HC at (ascii "c") no-raw b
+
+abbrev pub function : Sexp → Body → Helper
+function a b = HD at 0 (ascii "f") no-raw a b
+
+abbrev pub macro : Sexp → Form → Helper
+macro a f = HM at (ascii "m") no-raw a f
+
+abbrev pub namespace : List Helper → Helper
+namespace hs = HN at (ascii "n") no-raw (to-helpers hs)
+
+-- a form with these args and helpers
+abbrev pub form-with : Sexp → List Helper → Body → Form
+form-with a hs b = CF at no-raw a (to-helpers hs) b
+
 -- a form without args and helpers
 abbrev pub form-of : Body → Bytes
-form-of b = form-bytes (CF at (0 ∷ 0 ∷ []) (SN at) []ʰ b)
+form-of b = form-bytes (form-with (SN at) [] b)
+
+-- a constant that is this body
+abbrev pub constant-of : Body → Bytes
+constant-of b = helper-bytes (constant b)
 
 -- the document's CF of 27 bytes
 abbrev pub given : Bytes
@@ -81,6 +133,14 @@ given-renamed =
 -- an assign at location 7
 abbrev pub assign : List Binding → Body → Body
 assign bs b = BL Assign (0 ∷ 0 ∷ 0 ∷ 7 ∷ []) (0 ∷ []) (0 ∷ []) (to-bindings bs) b
+
+-- assign x = b, body x
+abbrev pub outer : String → Body → Body
+outer x b = assign (complex (atom x) b ∷ []) (var x)
+
+-- assign x = x, body x
+abbrev pub self-bound : Body
+self-bound = outer "x" (var "x")
 
 abbrev pub table : List (Call × Seen)
 table =
@@ -106,8 +166,8 @@ table =
     )
     -- let f = 1, body (f f)
     ∷ (
-      whole 0 (form-of (let-of Parallel (named "f" (number 1) ∷ []) (BC at (var "f" ∷ᵇ var "f" ∷ᵇ []ᵇ) no-tail))),
-      accepted 1 (form-of (let-of Parallel (named "f_$_1" (number 1) ∷ []) (BC at (var "f" ∷ᵇ var "f_$_1" ∷ᵇ []ᵇ) no-tail))),
+      whole 0 (form-of (let-of Parallel (named "f" (number 1) ∷ []) (call (var "f" ∷ var "f" ∷ [])))),
+      accepted 1 (form-of (let-of Parallel (named "f_$_1" (number 1) ∷ []) (call (var "f" ∷ var "f_$_1" ∷ [])))),
     )
     -- assign y = x, x = 1, body y
     ∷ (
@@ -138,11 +198,11 @@ starred = refl
 
 -- a form whose argument is this name, with so many bytes of R, and whose body is that name
 abbrev pub about : ℕ → Bytes → Bytes
-about r n = form-bytes (CF at (0 ∷ r ∷ replicate r 0) (SA at n) []ʰ (BV (SA at n)))
+about r n = form-bytes (CF at (0 ∷ r ∷ replicate r 0) (SA at n) (to-helpers []) (BV (SA at n)))
 
 -- a let of f around a call whose element 0 is a call of many f
 abbrev pub calls : String → String → Bytes
-calls f g = form-of (let-of Parallel (named g (number 1) ∷ []) (BC at (BC at (to-bodies (var f ∷ replicate 20 (var f))) no-tail ∷ᵇ []ᵇ) no-tail))
+calls f g = form-of (let-of Parallel (named g (number 1) ∷ []) (call (call (replicate 21 (var f)) ∷ [])))
 
 abbrev pub edges : List (Call × Seen)
 edges =
@@ -168,70 +228,3 @@ edges =
 pub edges-hold : Holds edges
 unfolding computing-all
 edges-hold = refl
-
--- what Children only answers, and the assigns that it reaches: number and place, and of each assign its counter, its bindings and the record given back
-abbrev pub Walked : Type 0
-Walked = ℕ × ℕ × List (ℕ × List Binding × Option Body)
-
-abbrev pub readings : List Visit → List (ℕ × List Binding × Option Body)
-readings [] = []
-readings (e ∷ es) = (e .counter, e .bindings, e .back) ∷ readings es
-
--- with a buffer of so many bytes
-abbrev pub walked : ℕ → Bytes → Walked
-walked n input = let r : Result = children-call 1024 262144 0 input (room n) in (r .0 .refusal .number, r .0 .refusal .place .start, readings (children-visits 1024 262144 0 input))
-
--- assign x = b, body x
-abbrev pub outer : String → Body → Body
-outer x b = assign (complex (atom x) b ∷ []) (var x)
-
--- assign y = 2, body y
-abbrev pub inner : String → Body
-inner y = outer y (number 2)
-
--- let z = 1 around a lambda without args that holds this
-abbrev pub around-lambda : String → Body → Body
-around-lambda z b = let-of Parallel (named z (number 1) ∷ []) (BF at (0 ∷ []) (SN at) (number 0) (SN at) b)
-
--- assign x = x, body x
-abbrev pub self-bound : Body
-self-bound = outer "x" (var "x")
-
--- an assign whose binding body holds a BM
-abbrev pub with-mod : Body
-with-mod = outer "x" (BM at (CF at (0 ∷ 0 ∷ []) (SN at) []ʰ (number 1)))
-
-abbrev pub lists : List ((ℕ × Bytes) × Walked)
-lists =
-    -- an assign in a lambda is reached again, as it then reads
-    (
-      (1024, form-of (around-lambda "z" (inner "y"))),
-      (0, 0, (1, complex (atom "y") (number 2) ∷ [], some (inner "y_$_2")) ∷ (2, complex (atom "y_$_2") (number 2) ∷ [], some (inner "y_$_2_$_3")) ∷ []),
-    )
-    -- an assign stands before those that its binding bodies lead to; each comes back, also where the buffer is too short
-    ∷ (
-      (1024, form-of (outer "x" (inner "y"))),
-      (0, 0, (0, complex (atom "x") (inner "y") ∷ [], some (outer "x_$_1" (inner "y_$_2"))) ∷ (1, complex (atom "y") (number 2) ∷ [], some (inner "y_$_2")) ∷ []),
-    )
-    ∷ (
-      (16, form-of (outer "x" (inner "y"))),
-      (8, 0, (0, complex (atom "x") (inner "y") ∷ [], some (outer "x_$_1" (inner "y_$_2"))) ∷ (1, complex (atom "y") (number 2) ∷ [], some (inner "y_$_2")) ∷ []),
-    )
-    -- a deadlock ends the list, and what is around it does not come back
-    ∷ (
-      (1024, form-of (outer "y" self-bound)),
-      (5, 7, (0, complex (atom "y") self-bound ∷ [], none) ∷ (1, complex (atom "x") (var "x") ∷ [], none) ∷ []),
-    )
-    -- refused with 4: none is reached, not even the assign before it
-    ∷ ((1024, form-of (BC at (inner "y" ∷ᵇ with-mod ∷ᵇ []ᵇ) no-tail)), (4, 100, []))
-    ∷ []
-
--- each row's call answers and reaches as the row says
-pub lists-hold : map (λ r. walked (r .0 .0) (r .0 .1)) lists ≡ map (λ r. r .1) lists
-unfolding computing-all
-lists-hold = refl
-
--- the names made, in their sequence
-pub names-drawn : names-made (events (whole-run 1024 262144 0 (form-of (outer "x" (inner "y"))))) ≡ (ascii "x", ascii "x_$_1") ∷ (ascii "y", ascii "y_$_2") ∷ []
-unfolding computing-all
-names-drawn = refl

@@ -15,6 +15,10 @@ pub mod InventSexps
 pub mod Joined
 pub mod JoinedMaps
 pub mod Cases
+pub mod CasesOfFields
+pub mod CasesOfRules
+pub mod CasesOfSums
+pub mod CasesOfLists
 pub mod All
 pub mod Reached
 pub mod Fuel
