@@ -59,7 +59,7 @@ pub fn args_bodyform(mem: &mut [u8], t: Task) -> Step
 {
     let k = body_mark(mem);
     match k {
-        0 => args_let(mem, t),
+        0 => lets(mem, t),
         3 => call(mem, t, true),
         5 => lambda(mem, t),
         _ => keep_body(mem, t),
@@ -95,7 +95,7 @@ pub fn either(mem: &mut [u8], t: Task, owning: bool) -> Step
 
 // Own of the body at the start of mem, in memory that ends where the map starts, and then In-body of
 // that by the map; beside results of `sum` bytes.
-pub fn args_then_in(mem: &mut [u8], sum: usize, t: Task) -> Piece
+pub fn both(mem: &mut [u8], sum: usize, t: Task) -> Piece
     requires { ⌜ BothReady (now mem) sum t ⌝ }
     ensures { λ r. ⌜ WalksBoth (now (mem .entry)) (now (mem .exit)) sum t r ⌝ }
 {
@@ -170,7 +170,7 @@ fn call(mem: &mut [u8], t: Task, owning: bool) -> Step
     let count = v.count;
     let free = t.free;
     copy(mem, 0, free, at);
-    match elements(
+    match each(
         &mut mem[at..],
         count,
         Task {
@@ -206,7 +206,7 @@ fn call(mem: &mut [u8], t: Task, owning: bool) -> Step
 
 // So many bodies, one after the other from the start of mem. Element 0 of a call stays as it was
 // under In-body. What is written is the sum.
-fn elements(mem: &mut [u8], count: u8, t: Task, owning: bool) -> Piece
+fn each(mem: &mut [u8], count: u8, t: Task, owning: bool) -> Piece
     requires { ⌜ ElementsReady owning (now mem) count t ⌝ }
     ensures { λ r. ⌜ WalksElements owning (now (mem .entry)) (now (mem .exit)) count t r ⌝ }
 {
@@ -278,14 +278,14 @@ fn tail(mem: &mut [u8], sum: usize, t: Task, owning: bool) -> Piece
 }
 
 // Own of a BL, by its kind.
-fn args_let(mem: &mut [u8], t: Task) -> Step
+fn lets(mem: &mut [u8], t: Task) -> Step
     requires { ⌜ BodyReady IsBinder true (now mem) t ⌝ }
     ensures { λ r. ⌜ Walks IsBinder true (now (mem .entry)) (now (mem .exit)) t r ⌝ }
 {
     let k = mem[MARK_WIDTH];
     match k {
         0 => parallel(mem, t),
-        1 => sequential(mem, t),
+        1 => chain(mem, t),
         _ => assign(mem, t),
     }
 }
@@ -302,7 +302,7 @@ fn parallel(mem: &mut [u8], t: Task) -> Step
     let aside = mem.len() - let_room(count, t.f);
     match make_bindings_unique(mem, first, count, aside, t) {
         Drawn::Refused(r) => Step::Refused(r),
-        Drawn::Done(_, sum, m, c) => patterned(
+        Drawn::Done(_, sum, m, c) => bound(
             mem,
             first,
             count,
@@ -320,13 +320,13 @@ fn parallel(mem: &mut [u8], t: Task) -> Step
 }
 
 // Own of a parallel let whose bindings start at a place, and whose patterns and map are made.
-fn patterned(mem: &mut [u8], first: usize, count: u8, aside: usize, sum: usize, t: Task) -> Step
+fn bound(mem: &mut [u8], first: usize, count: u8, aside: usize, sum: usize, t: Task) -> Step
     requires { ⌜ PatternedReady (now mem) first count aside sum t ⌝ }
     ensures { λ r. ⌜ WalksPatterned (now (mem .entry)) (now (mem .exit)) first count aside sum t r ⌝ }
 {
     let free = t.free;
     copy(mem, 0, free, first);
-    match bind_all(
+    match binds(
         &mut mem[first..],
         count,
         aside - first,
@@ -343,7 +343,7 @@ fn patterned(mem: &mut [u8], first: usize, count: u8, aside: usize, sum: usize, 
         Piece::Refused(r) => Step::Refused(r),
         Piece::Done(r, w, s, c) => {
             let q = first + r;
-            match args_then_in(
+            match both(
                 &mut mem[q..],
                 s,
                 Task {
@@ -363,7 +363,7 @@ fn patterned(mem: &mut [u8], first: usize, count: u8, aside: usize, sum: usize, 
 
 // So many bindings from the start of mem on, their results from free on, beside results of `held`
 // bytes: under Own with the patterns that stand from `aside` on, under In-body with their own.
-fn bind_all(mem: &mut [u8], count: u8, aside: usize, held: usize, t: Task, owning: bool) -> Piece
+fn binds(mem: &mut [u8], count: u8, aside: usize, held: usize, t: Task, owning: bool) -> Piece
     requires { ⌜ AllReady (now mem) count aside held t owning ⌝ }
     ensures { λ r. ⌜ BindsAll (now (mem .entry)) (now (mem .exit)) count aside held t owning r ⌝ }
 {
@@ -430,7 +430,7 @@ fn in_let(mem: &mut [u8], t: Task) -> Step
     let count = v.count;
     let free = t.free;
     copy(mem, 0, free, first);
-    match bind_all(
+    match binds(
         &mut mem[first..],
         count,
         0,
@@ -470,7 +470,7 @@ fn in_let(mem: &mut [u8], t: Task) -> Step
 }
 
 // Own of a sequential let: of the nested lets that it becomes, which their result then replaces.
-fn sequential(mem: &mut [u8], t: Task) -> Step
+fn chain(mem: &mut [u8], t: Task) -> Step
     requires { ⌜ BodyReady (IsLet Sequential) true (now mem) t ⌝ }
     ensures { λ r. ⌜ Walks (IsLet Sequential) true (now (mem .entry)) (now (mem .exit)) t r ⌝ }
 {
@@ -488,7 +488,7 @@ fn sequential(mem: &mut [u8], t: Task) -> Step
         },
     ) {
         Step::Refused(r) => Step::Refused(r),
-        Step::Done(r, w, c) => match desugared(
+        Step::Done(r, w, c) => match nested(
             &mut mem[to..],
             count,
             Task {
@@ -509,7 +509,7 @@ fn sequential(mem: &mut [u8], t: Task) -> Step
 }
 
 // Own of what a sequential let of so many bindings became.
-fn desugared(mem: &mut [u8], count: u8, t: Task) -> Step
+fn nested(mem: &mut [u8], count: u8, t: Task) -> Step
     requires { ⌜ NestedReady (now mem) count t ⌝ }
     ensures { λ r. ⌜ WalksNested (now (mem .entry)) (now (mem .exit)) count t r ⌝ }
 {
@@ -538,12 +538,12 @@ fn assign(mem: &mut [u8], t: Task) -> Step
     if o.placed < o.count {
         return Step::Refused(refusing(5, place_at(number(mem, MARK_WIDTH + 1, LOC_WIDTH) as u64)));
     }
-    ordered(mem, o, t)
+    sorted(mem, o, t)
 }
 
 // Own of an assign whose order is known. Its bindings are made behind the room for the result, and
 // stand then before that place, the last one first.
-fn ordered(mem: &mut [u8], o: Order, t: Task) -> Step
+fn sorted(mem: &mut [u8], o: Order, t: Task) -> Step
     requires { ⌜ OrderedReady (now mem) o t ⌝ }
     ensures { λ r. ⌜ Walks (IsLet Assign) true (now (mem .entry)) (now (mem .exit)) t r ⌝ }
 {
@@ -555,7 +555,7 @@ fn ordered(mem: &mut [u8], o: Order, t: Task) -> Step
     binding_starts(mem, first, &mut starts[..count + 1]);
     let body = starts[count];
     let end = t.free + BINDINGS_ROOM * t.f;
-    match rename_assign_bindings(
+    match assign_all(
         mem,
         &row[..count],
         &starts[..count + 1],
@@ -568,7 +568,7 @@ fn ordered(mem: &mut [u8], o: Order, t: Task) -> Step
         },
     ) {
         Made::Refused(r) => Step::Refused(r),
-        Made::Done(w, sum, m, c) => turned(
+        Made::Done(w, sum, m, c) => moved(
             mem,
             first,
             body,
@@ -587,7 +587,7 @@ fn ordered(mem: &mut [u8], o: Order, t: Task) -> Step
 
 // An assign whose w bytes of bindings are made and stand behind the room for them: they are moved
 // behind its head, and its body follows.
-fn turned(mem: &mut [u8], first: usize, body: usize, w: usize, sum: usize, t: Task) -> Step
+fn moved(mem: &mut [u8], first: usize, body: usize, w: usize, sum: usize, t: Task) -> Step
     requires { ⌜ TurnedReady (now mem) first body w sum t ⌝ }
     ensures { λ r. ⌜ Turns (now (mem .entry)) (now (mem .exit)) w sum t r ⌝ }
 {
@@ -595,7 +595,7 @@ fn turned(mem: &mut [u8], first: usize, body: usize, w: usize, sum: usize, t: Ta
     let end = free + BINDINGS_ROOM * t.f;
     copy(mem, 0, free, first);
     copy(mem, end - w, free + first, w);
-    match args_then_in(
+    match both(
         &mut mem[body..],
         sum,
         Task {
@@ -611,9 +611,9 @@ fn turned(mem: &mut [u8], first: usize, body: usize, w: usize, sum: usize, t: Ta
     }
 }
 
-// The bindings of these indices, one after the other: each is made at free, and moved before those
-// that were made earlier.
-fn rename_assign_bindings(mem: &mut [u8], row: &[u8], starts: &[usize], t: Task) -> Made
+// The bindings of these indices, one after the other (`rename_assign_bindings`): each is made at free,
+// and moved before those that were made earlier.
+fn assign_all(mem: &mut [u8], row: &[u8], starts: &[usize], t: Task) -> Made
     requires { ⌜ BindingsReady (now mem) (now row) (now starts) t ⌝ }
     ensures { λ r. ⌜ MakesBindings (now (mem .entry)) (now (mem .exit)) (now (row .entry)) (now (starts .entry)) t r ⌝ }
 {
@@ -626,7 +626,7 @@ fn rename_assign_bindings(mem: &mut [u8], row: &[u8], starts: &[usize], t: Task)
         let i = row[j] as usize;
         let at = starts[i];
         let n = starts[i + 1] - at;
-        match assign_binding(
+        match assign_one(
             &mut mem[at..],
             n,
             sum,
@@ -655,7 +655,7 @@ fn rename_assign_bindings(mem: &mut [u8], row: &[u8], starts: &[usize], t: Task)
 }
 
 // The binding of n bytes at the start of mem: a Name binding is copied.
-fn assign_binding(mem: &mut [u8], n: usize, sum: usize, t: Task) -> Made
+fn assign_one(mem: &mut [u8], n: usize, sum: usize, t: Task) -> Made
     requires { ⌜ BindingReady (now mem) n sum t ⌝ }
     ensures { λ r. ⌜ MakesBinding (now (mem .entry)) (now (mem .exit)) sum t r ⌝ }
 {
@@ -715,7 +715,7 @@ fn named(mem: &mut [u8], body: usize, sum: usize, t: Task) -> Made
             if t.f < sum + w {
                 return Made::Refused(placeless(7));
             }
-            remake(
+            redo(
                 mem,
                 w,
                 sum + w,
@@ -732,7 +732,7 @@ fn named(mem: &mut [u8], body: usize, sum: usize, t: Task) -> Made
 }
 
 // The pattern at the start of mem by the map, and In-body of the w bytes at free, which both replace.
-fn remake(mem: &mut [u8], w: usize, sum: usize, t: Task) -> Made
+fn redo(mem: &mut [u8], w: usize, sum: usize, t: Task) -> Made
     requires { ⌜ RemakeReady (now mem) w sum t ⌝ }
     ensures { λ r. ⌜ Remakes (now (mem .entry)) (now (mem .exit)) w sum t r ⌝ }
 {
@@ -785,7 +785,7 @@ fn lambda(mem: &mut [u8], t: Task) -> Step
         Drawn::Refused(r) => Step::Refused(r),
         Drawn::Done(r, w, m, c) => {
             let q = args + r;
-            match args_then_in(
+            match both(
                 &mut mem[q..],
                 w,
                 Task {
@@ -826,7 +826,7 @@ fn in_lambda(mem: &mut [u8], t: Task) -> Step
         },
     ) {
         Step::Refused(r) => Step::Refused(r),
-        Step::Done(_, x, d) => captured(
+        Step::Done(_, x, d) => rest(
             mem,
             at,
             args,
@@ -845,7 +845,7 @@ fn in_lambda(mem: &mut [u8], t: Task) -> Step
 
 // A BF whose captures are made, x bytes: the capture args from `at` on go before them, then the args
 // as they are, and the body by both rules.
-fn captured(mem: &mut [u8], at: usize, args: usize, body: usize, x: usize, t: Task) -> Step
+fn rest(mem: &mut [u8], at: usize, args: usize, body: usize, x: usize, t: Task) -> Step
     requires { ⌜ CapturedReady (now mem) at args body x t ⌝ }
     ensures { λ r. ⌜ WalksCaptured (now (mem .entry)) (now (mem .exit)) at args body x t r ⌝ }
 {
@@ -867,7 +867,7 @@ fn captured(mem: &mut [u8], at: usize, args: usize, body: usize, x: usize, t: Ta
             let to = q + w + x;
             let n = body - args;
             copy(mem, args, to, n);
-            match args_then_in(
+            match both(
                 &mut mem[body..],
                 w + x,
                 Task {

@@ -4,8 +4,8 @@ use borrow.Author.Needs.{needs}
 use native.Mathlib.Omega.{arith}
 use Prim.Native.Nat.{ℕ}
 use Rattle.walk.proofs.bodies.parallel.Reads as parallel
-use Rattle.walk.proofs.bodies.+args_bodyform+args_let+args_then_in+assign+assign_binding+bind+bind_all+call+captured+complex+desugared+either+elements+in_bodyform+in_lambda+in_let+lambda+named+ordered+over+parallel+patterned+remake+rename_assign_bindings+sequential+tail+turned.Lts-parallel as parallel-lts
-use Rattle.walk.proofs.bodies.+args_bodyform+args_let+args_then_in+assign+assign_binding+bind+bind_all+call+captured+complex+desugared+either+elements+in_bodyform+in_lambda+in_let+lambda+named+ordered+over+parallel+patterned+remake+rename_assign_bindings+sequential+tail+turned.Proof.Base.{parallel-at, parallel-calls}
+use Rattle.walk.proofs.bodies.+args_bodyform+assign+assign_all+assign_one+bind+binds+both+bound+call+chain+complex+each+either+in_bodyform+in_lambda+in_let+lambda+lets+moved+named+nested+over+parallel+redo+rest+sorted+tail.Lts-parallel as parallel-lts
+use Rattle.walk.proofs.bodies.+args_bodyform+assign+assign_all+assign_one+bind+binds+both+bound+call+chain+complex+each+either+in_bodyform+in_lambda+in_let+lambda+lets+moved+named+nested+over+parallel+redo+rest+sorted+tail.Proof.Base.{parallel-at, parallel-calls}
 
 -- places
 module _ (t : ℕ) where
@@ -46,8 +46,8 @@ module _ (t : ℕ) where
   pub enum-known-sum : parallel-lts.Need-enum-known-sum (parallel-calls t) (parallel-at t) parallel.Post
   enum-known-sum c = search needs
 
-  pub patterned-requires : parallel-lts.Need-patterned-requires (parallel-calls t) (parallel-at t) parallel.Post
-  patterned-requires c κs =
+  pub bound-requires : parallel-lts.Need-bound-requires (parallel-calls t) (parallel-at t) parallel.Post
+  bound-requires c κs =
       let u = c .before .before in
       let d = drawn t u in
       let o = roomed t d in
@@ -73,7 +73,7 @@ module _ (t : ℕ) where
       let d = drawn t u in
       let o = roomed t d in
       let v = o .before in
-      parallel-done (v .let-view .ensures) (start t v .pre .1) (o .let-room .ensures) (d .make-bindings-unique .ensures) _ _ _ _ (u .sum .given .1) (a .patterned .ensures)
+      parallel-done (v .let-view .ensures) (start t v .pre .1) (o .let-room .ensures) (d .make-bindings-unique .ensures) _ _ _ _ (u .sum .given .1) (a .bound .ensures)
 
   pub same-length-2 : parallel-lts.Need-same-length-2 (parallel-calls t) (parallel-at t) parallel.Post
   same-length-2 c = search needs

@@ -5,8 +5,8 @@ use Prim.Native.Nat.{ℕ}
 use Rattle.walk.proofs.Dispatch.{binder-marked, quoted-marked, call-marked, mod-marked, lambda-marked, value-marked, walks-as, asks-kept, asks-kind, in-keeps, in-renames}
 use Rattle.walk.proofs.Results.{ready-as}
 use Rattle.walk.proofs.bodies.in_bodyform.Reads as in-bodyform
-use Rattle.walk.proofs.bodies.+args_bodyform+args_let+args_then_in+assign+assign_binding+bind+bind_all+call+captured+complex+desugared+either+elements+in_bodyform+in_lambda+in_let+lambda+named+ordered+over+parallel+patterned+remake+rename_assign_bindings+sequential+tail+turned.Lts-in_bodyform as in-bodyform-lts
-use Rattle.walk.proofs.bodies.+args_bodyform+args_let+args_then_in+assign+assign_binding+bind+bind_all+call+captured+complex+desugared+either+elements+in_bodyform+in_lambda+in_let+lambda+named+ordered+over+parallel+patterned+remake+rename_assign_bindings+sequential+tail+turned.Proof.Base.{in-bodyform-at, in-bodyform-calls}
+use Rattle.walk.proofs.bodies.+args_bodyform+assign+assign_all+assign_one+bind+binds+both+bound+call+chain+complex+each+either+in_bodyform+in_lambda+in_let+lambda+lets+moved+named+nested+over+parallel+redo+rest+sorted+tail.Lts-in_bodyform as in-bodyform-lts
+use Rattle.walk.proofs.bodies.+args_bodyform+assign+assign_all+assign_one+bind+binds+both+bound+call+chain+complex+each+either+in_bodyform+in_lambda+in_let+lambda+lets+moved+named+nested+over+parallel+redo+rest+sorted+tail.Proof.Base.{in-bodyform-at, in-bodyform-calls}
 
 -- places
 module _ (t : ℕ) where

@@ -5,8 +5,8 @@ use lib.ListN.{getD, length-set}
 use Prim.Native.Nat.{ℕ}
 use Rattle.walk.proofs.TailLaws.{byte-fits, no-tail-walks, tail-ready, tail-sums, tail-too-long, tail-refused, tail-done}
 use Rattle.walk.proofs.bodies.tail.Reads as tail
-use Rattle.walk.proofs.bodies.+args_bodyform+args_let+args_then_in+assign+assign_binding+bind+bind_all+call+captured+complex+desugared+either+elements+in_bodyform+in_lambda+in_let+lambda+named+ordered+over+parallel+patterned+remake+rename_assign_bindings+sequential+tail+turned.Lts-tail as tail-lts
-use Rattle.walk.proofs.bodies.+args_bodyform+args_let+args_then_in+assign+assign_binding+bind+bind_all+call+captured+complex+desugared+either+elements+in_bodyform+in_lambda+in_let+lambda+named+ordered+over+parallel+patterned+remake+rename_assign_bindings+sequential+tail+turned.Proof.Base.{tail-at, tail-calls}
+use Rattle.walk.proofs.bodies.+args_bodyform+assign+assign_all+assign_one+bind+binds+both+bound+call+chain+complex+each+either+in_bodyform+in_lambda+in_let+lambda+lets+moved+named+nested+over+parallel+redo+rest+sorted+tail.Lts-tail as tail-lts
+use Rattle.walk.proofs.bodies.+args_bodyform+assign+assign_all+assign_one+bind+binds+both+bound+call+chain+complex+each+either+in_bodyform+in_lambda+in_let+lambda+lets+moved+named+nested+over+parallel+redo+rest+sorted+tail.Proof.Base.{tail-at, tail-calls}
 
 -- places
 module _ (t : ℕ) where

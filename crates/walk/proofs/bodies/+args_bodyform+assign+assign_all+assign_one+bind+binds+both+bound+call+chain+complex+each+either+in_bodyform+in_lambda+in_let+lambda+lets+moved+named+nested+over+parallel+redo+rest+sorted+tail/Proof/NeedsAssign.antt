@@ -3,8 +3,8 @@ use borrow.Author.Needs.{needs}
 use native.Mathlib.Omega.{arith}
 use Prim.Native.Nat.{ℕ}
 use Rattle.walk.proofs.bodies.assign.Reads as assign
-use Rattle.walk.proofs.bodies.+args_bodyform+args_let+args_then_in+assign+assign_binding+bind+bind_all+call+captured+complex+desugared+either+elements+in_bodyform+in_lambda+in_let+lambda+named+ordered+over+parallel+patterned+remake+rename_assign_bindings+sequential+tail+turned.Lts-assign as assign-lts
-use Rattle.walk.proofs.bodies.+args_bodyform+args_let+args_then_in+assign+assign_binding+bind+bind_all+call+captured+complex+desugared+either+elements+in_bodyform+in_lambda+in_let+lambda+named+ordered+over+parallel+patterned+remake+rename_assign_bindings+sequential+tail+turned.Proof.Base.{assign-at, assign-calls}
+use Rattle.walk.proofs.bodies.+args_bodyform+assign+assign_all+assign_one+bind+binds+both+bound+call+chain+complex+each+either+in_bodyform+in_lambda+in_let+lambda+lets+moved+named+nested+over+parallel+redo+rest+sorted+tail.Lts-assign as assign-lts
+use Rattle.walk.proofs.bodies.+args_bodyform+assign+assign_all+assign_one+bind+binds+both+bound+call+chain+complex+each+either+in_bodyform+in_lambda+in_let+lambda+lets+moved+named+nested+over+parallel+redo+rest+sorted+tail.Proof.Base.{assign-at, assign-calls}
 use mathlib.Core.Path.{sym}
 use Rattle.walk.proofs.AssignLaws.{cut-fits, cut-size, order-asks, loc-fits, order-known, deadlock-refused}
 
@@ -46,8 +46,8 @@ module _ (t : ℕ) where
       let d = i .before .before in
       deadlock-refused (start t d .pre .1) (d .toposort-assign-bindings .ensures) (i .if1 .taken) (k .number .ensures .0) (c .before .place-at .ensures) (c .refusing .ensures)
 
-  pub ordered-requires : assign-lts.Need-ordered-requires (assign-calls t) (assign-at t) assign.Post
-  ordered-requires c κs =
+  pub sorted-requires : assign-lts.Need-sorted-requires (assign-calls t) (assign-at t) assign.Post
+  sorted-requires c κs =
       let d = c .before .before .before in
       let s = start t d in
       (omega (arith, s .pre .0), order-known (s .pre .1) (d .toposort-assign-bindings .ensures) (omega (arith, c .before .if1 .left)))
@@ -56,4 +56,4 @@ module _ (t : ℕ) where
   same-length-2 c = search needs
 
   pub returns-2 : assign-lts.Need-returns-2 (assign-calls t) (assign-at t) assign.Post
-  returns-2 c = c .before .before .ordered .ensures
+  returns-2 c = c .before .before .sorted .ensures

@@ -3,8 +3,8 @@ use borrow.Author.Needs.{needs}
 use native.Mathlib.Omega.{arith}
 use Prim.Native.Nat.{ℕ}
 use Rattle.walk.proofs.bodies.complex.Reads as complex
-use Rattle.walk.proofs.bodies.+args_bodyform+args_let+args_then_in+assign+assign_binding+bind+bind_all+call+captured+complex+desugared+either+elements+in_bodyform+in_lambda+in_let+lambda+named+ordered+over+parallel+patterned+remake+rename_assign_bindings+sequential+tail+turned.Lts-complex as complex-lts
-use Rattle.walk.proofs.bodies.+args_bodyform+args_let+args_then_in+assign+assign_binding+bind+bind_all+call+captured+complex+desugared+either+elements+in_bodyform+in_lambda+in_let+lambda+named+ordered+over+parallel+patterned+remake+rename_assign_bindings+sequential+tail+turned.Proof.Base.{complex-at, complex-calls}
+use Rattle.walk.proofs.bodies.+args_bodyform+assign+assign_all+assign_one+bind+binds+both+bound+call+chain+complex+each+either+in_bodyform+in_lambda+in_let+lambda+lets+moved+named+nested+over+parallel+redo+rest+sorted+tail.Lts-complex as complex-lts
+use Rattle.walk.proofs.bodies.+args_bodyform+assign+assign_all+assign_one+bind+binds+both+bound+call+chain+complex+each+either+in_bodyform+in_lambda+in_let+lambda+lets+moved+named+nested+over+parallel+redo+rest+sorted+tail.Proof.Base.{complex-at, complex-calls}
 use Rattle.walk.proofs.NamedLaws.{drawable, invent-refused, named-ready, complex-done}
 
 -- places

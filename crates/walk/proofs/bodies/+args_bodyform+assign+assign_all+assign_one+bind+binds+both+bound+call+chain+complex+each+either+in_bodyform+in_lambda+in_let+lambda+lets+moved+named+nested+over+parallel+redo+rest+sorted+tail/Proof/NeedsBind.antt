@@ -4,8 +4,8 @@ use borrow.Author.Needs.{needs}
 use native.Mathlib.Omega.{arith}
 use Prim.Native.Nat.{ℕ}
 use Rattle.walk.proofs.bodies.bind.Reads as bind
-use Rattle.walk.proofs.bodies.+args_bodyform+args_let+args_then_in+assign+assign_binding+bind+bind_all+call+captured+complex+desugared+either+elements+in_bodyform+in_lambda+in_let+lambda+named+ordered+over+parallel+patterned+remake+rename_assign_bindings+sequential+tail+turned.Lts-bind as bind-lts
-use Rattle.walk.proofs.bodies.+args_bodyform+args_let+args_then_in+assign+assign_binding+bind+bind_all+call+captured+complex+desugared+either+elements+in_bodyform+in_lambda+in_let+lambda+named+ordered+over+parallel+patterned+remake+rename_assign_bindings+sequential+tail+turned.Proof.Base.{bind-at, bind-calls}
+use Rattle.walk.proofs.bodies.+args_bodyform+assign+assign_all+assign_one+bind+binds+both+bound+call+chain+complex+each+either+in_bodyform+in_lambda+in_let+lambda+lets+moved+named+nested+over+parallel+redo+rest+sorted+tail.Lts-bind as bind-lts
+use Rattle.walk.proofs.bodies.+args_bodyform+assign+assign_all+assign_one+bind+binds+both+bound+call+chain+complex+each+either+in_bodyform+in_lambda+in_let+lambda+lets+moved+named+nested+over+parallel+redo+rest+sorted+tail.Proof.Base.{bind-at, bind-calls}
 
 -- needs
 module _ (t : ℕ) where

@@ -7,8 +7,8 @@ use lib.ListN.{length}
 use Rattle.names.proofs.Frames.{movable-up}
 use Rattle.walk.proofs.LambdaLaws.{LambdaHere, lambda-here, lambda-copies, lambda-args, lambda-stopped, lambda-places, lambda-both, lambda-halted, lambda-sums, lambda-finished}
 use Rattle.walk.proofs.bodies.lambda.Reads as lambda
-use Rattle.walk.proofs.bodies.+args_bodyform+args_let+args_then_in+assign+assign_binding+bind+bind_all+call+captured+complex+desugared+either+elements+in_bodyform+in_lambda+in_let+lambda+named+ordered+over+parallel+patterned+remake+rename_assign_bindings+sequential+tail+turned.Lts-lambda as lambda-lts
-use Rattle.walk.proofs.bodies.+args_bodyform+args_let+args_then_in+assign+assign_binding+bind+bind_all+call+captured+complex+desugared+either+elements+in_bodyform+in_lambda+in_let+lambda+named+ordered+over+parallel+patterned+remake+rename_assign_bindings+sequential+tail+turned.Proof.Base.{lambda-at, lambda-calls}
+use Rattle.walk.proofs.bodies.+args_bodyform+assign+assign_all+assign_one+bind+binds+both+bound+call+chain+complex+each+either+in_bodyform+in_lambda+in_let+lambda+lets+moved+named+nested+over+parallel+redo+rest+sorted+tail.Lts-lambda as lambda-lts
+use Rattle.walk.proofs.bodies.+args_bodyform+assign+assign_all+assign_one+bind+binds+both+bound+call+chain+complex+each+either+in_bodyform+in_lambda+in_let+lambda+lets+moved+named+nested+over+parallel+redo+rest+sorted+tail.Proof.Base.{lambda-at, lambda-calls}
 
 -- needs
 module _ (t : ℕ) where
@@ -25,16 +25,16 @@ module _ (t : ℕ) where
   abbrev drawn : lambda-lts.After-r2 (lambda-calls t) (lambda-at t) lambda.Post → lambda-lts.After-new-args (lambda-calls t) (lambda-at t) lambda.Post
   drawn c = c .before .before .before .before
 
-  abbrev got : lambda-lts.After-args-then-in (lambda-calls t) (lambda-at t) lambda.Post → lambda-lts.After-r2 (lambda-calls t) (lambda-at t) lambda.Post
+  abbrev got : lambda-lts.After-both (lambda-calls t) (lambda-at t) lambda.Post → lambda-lts.After-r2 (lambda-calls t) (lambda-at t) lambda.Post
   got c = c .before .before .before .before
 
-  abbrev walked : lambda-lts.After-i (lambda-calls t) (lambda-at t) lambda.Post → lambda-lts.After-args-then-in (lambda-calls t) (lambda-at t) lambda.Post
+  abbrev walked : lambda-lts.After-i (lambda-calls t) (lambda-at t) lambda.Post → lambda-lts.After-both (lambda-calls t) (lambda-at t) lambda.Post
   walked c = c .before .before .before .before
 
   abbrev refused : lambda-lts.After-r (lambda-calls t) (lambda-at t) lambda.Post → lambda-lts.After-new-args (lambda-calls t) (lambda-at t) lambda.Post
   refused c = c .before .before .before .before
 
-  abbrev stopped : lambda-lts.After-r3 (lambda-calls t) (lambda-at t) lambda.Post → lambda-lts.After-args-then-in (lambda-calls t) (lambda-at t) lambda.Post
+  abbrev stopped : lambda-lts.After-r3 (lambda-calls t) (lambda-at t) lambda.Post → lambda-lts.After-both (lambda-calls t) (lambda-at t) lambda.Post
   stopped c = c .before .before .before .before
 
   -- the BF
@@ -63,7 +63,7 @@ module _ (t : ℕ) where
       let r = got b in
       let d = drawn r in
       let k = copied d in
-      lambda-sums (start k .pre .1) (here k) (k .copy .ensures) (d .new-args .ensures) _ _ _ _ (r .r2 .given .1) (b .args-then-in .ensures) _ _ _ _ (c .i .given .1)
+      lambda-sums (start k .pre .1) (here k) (k .copy .ensures) (d .new-args .ensures) _ _ _ _ (r .r2 .given .1) (b .both .ensures) _ _ _ _ (c .i .given .1)
 
   pub lambda-view-requires : lambda-lts.Need-lambda-view-requires (lambda-calls t) (lambda-at t) lambda.Post
   lambda-view-requires c κs = search needs
@@ -97,14 +97,14 @@ module _ (t : ℕ) where
   pub add-q : lambda-lts.Need-add-q (lambda-calls t) (lambda-at t) lambda.Post
   add-q c = let r = c .before in omega (arith, places r .0, places r .1, start (copied (drawn r)) .good)
 
-  pub sub-args-then-in : lambda-lts.Need-sub-args-then-in (lambda-calls t) (lambda-at t) lambda.Post
-  sub-args-then-in c = let r = c .before in omega (arith, places r .0, places r .1)
+  pub sub-both : lambda-lts.Need-sub-both (lambda-calls t) (lambda-at t) lambda.Post
+  sub-both c = let r = c .before in omega (arith, places r .0, places r .1)
 
-  pub part-args-then-in-start : lambda-lts.Need-part-args-then-in-start (lambda-calls t) (lambda-at t) lambda.Post
-  part-args-then-in-start c = let r = c .before in omega (arith, places r .0, places r .1)
+  pub part-both-start : lambda-lts.Need-part-both-start (lambda-calls t) (lambda-at t) lambda.Post
+  part-both-start c = let r = c .before in omega (arith, places r .0, places r .1)
 
-  pub part-args-then-in-end : lambda-lts.Need-part-args-then-in-end (lambda-calls t) (lambda-at t) lambda.Post
-  part-args-then-in-end c = search needs
+  pub part-both-end : lambda-lts.Need-part-both-end (lambda-calls t) (lambda-at t) lambda.Post
+  part-both-end c = search needs
 
   pub add-t32 : lambda-lts.Need-add-t32 (lambda-calls t) (lambda-at t) lambda.Post
   add-t32 c = search needs
@@ -118,8 +118,8 @@ module _ (t : ℕ) where
   pub sub-t35 : lambda-lts.Need-sub-t35 (lambda-calls t) (lambda-at t) lambda.Post
   sub-t35 c = let k = copied (drawn (c .before .before .before)) in omega (arith, here k .level)
 
-  pub args-then-in-requires : lambda-lts.Need-args-then-in-requires (lambda-calls t) (lambda-at t) lambda.Post
-  args-then-in-requires c κs =
+  pub both-requires : lambda-lts.Need-both-requires (lambda-calls t) (lambda-at t) lambda.Post
+  both-requires c κs =
       let r = c .before .before .before in
       let d = drawn r in
       let k = copied d in
@@ -164,7 +164,7 @@ module _ (t : ℕ) where
       let r = got b in
       let d = drawn r in
       let k = copied d in
-      lambda-halted (start k .pre .1) (here k) (k .copy .ensures) (d .new-args .ensures) _ _ _ _ (r .r2 .given .1) (b .args-then-in .ensures) _ (z .r3 .given .1)
+      lambda-halted (start k .pre .1) (here k) (k .copy .ensures) (d .new-args .ensures) _ _ _ _ (r .r2 .given .1) (b .both .ensures) _ (z .r3 .given .1)
 
   pub same-length-3 : lambda-lts.Need-same-length-3 (lambda-calls t) (lambda-at t) lambda.Post
   same-length-3 c = search needs
@@ -176,4 +176,4 @@ module _ (t : ℕ) where
       let r = got b in
       let d = drawn r in
       let k = copied d in
-      lambda-finished (start k .pre .1) (here k) (k .copy .ensures) (d .new-args .ensures) _ _ _ _ (r .r2 .given .1) (b .args-then-in .ensures) _ _ _ _ (i .i .given .1) (c .finished .ensures)
+      lambda-finished (start k .pre .1) (here k) (k .copy .ensures) (d .new-args .ensures) _ _ _ _ (r .r2 .given .1) (b .both .ensures) _ _ _ _ (i .i .given .1) (c .finished .ensures)

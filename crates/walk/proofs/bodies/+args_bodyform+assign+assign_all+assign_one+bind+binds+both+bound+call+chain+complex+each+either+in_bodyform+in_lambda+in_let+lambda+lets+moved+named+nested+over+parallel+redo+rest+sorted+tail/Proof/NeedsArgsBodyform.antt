@@ -5,8 +5,8 @@ use Prim.Native.Nat.{ℕ}
 use Rattle.walk.proofs.Dispatch.{binder-marked, call-marked, lambda-marked, kept-marked, walks-as, asks-kept, own-keeps}
 use Rattle.walk.proofs.Results.{ready-as}
 use Rattle.walk.proofs.bodies.args_bodyform.Reads as args-bodyform
-use Rattle.walk.proofs.bodies.+args_bodyform+args_let+args_then_in+assign+assign_binding+bind+bind_all+call+captured+complex+desugared+either+elements+in_bodyform+in_lambda+in_let+lambda+named+ordered+over+parallel+patterned+remake+rename_assign_bindings+sequential+tail+turned.Lts-args_bodyform as args-bodyform-lts
-use Rattle.walk.proofs.bodies.+args_bodyform+args_let+args_then_in+assign+assign_binding+bind+bind_all+call+captured+complex+desugared+either+elements+in_bodyform+in_lambda+in_let+lambda+named+ordered+over+parallel+patterned+remake+rename_assign_bindings+sequential+tail+turned.Proof.Base.{args-bodyform-at, args-bodyform-calls}
+use Rattle.walk.proofs.bodies.+args_bodyform+assign+assign_all+assign_one+bind+binds+both+bound+call+chain+complex+each+either+in_bodyform+in_lambda+in_let+lambda+lets+moved+named+nested+over+parallel+redo+rest+sorted+tail.Lts-args_bodyform as args-bodyform-lts
+use Rattle.walk.proofs.bodies.+args_bodyform+assign+assign_all+assign_one+bind+binds+both+bound+call+chain+complex+each+either+in_bodyform+in_lambda+in_let+lambda+lets+moved+named+nested+over+parallel+redo+rest+sorted+tail.Proof.Base.{args-bodyform-at, args-bodyform-calls}
 
 -- places
 module _ (t : ℕ) where
@@ -18,8 +18,8 @@ module _ (t : ℕ) where
   pub body-mark-requires : args-bodyform-lts.Need-body-mark-requires (args-bodyform-calls t) (args-bodyform-at t) args-bodyform.Post
   body-mark-requires c κs = search needs
 
-  pub args-let-requires : args-bodyform-lts.Need-args-let-requires (args-bodyform-calls t) (args-bodyform-at t) args-bodyform.Post
-  args-let-requires c κs =
+  pub lets-requires : args-bodyform-lts.Need-lets-requires (args-bodyform-calls t) (args-bodyform-at t) args-bodyform.Post
+  lets-requires c κs =
       let b = c .before .before in
       let s = start t b in
       let p = s .pre .1 in
@@ -50,7 +50,7 @@ module _ (t : ℕ) where
       let a = c .before .before in
       let k = a .before .before in
       let p = start t (k .before) .pre .1 in
-      walks-as p (binder-marked (k .before .body-mark .ensures) (p .tree) (p .there) (k .match .keys1)) (a .args-let .ensures)
+      walks-as p (binder-marked (k .before .body-mark .ensures) (p .tree) (p .there) (k .match .keys1)) (a .lets .ensures)
 
   pub same-length-2 : args-bodyform-lts.Need-same-length-2 (args-bodyform-calls t) (args-bodyform-at t) args-bodyform.Post
   same-length-2 c = search needs

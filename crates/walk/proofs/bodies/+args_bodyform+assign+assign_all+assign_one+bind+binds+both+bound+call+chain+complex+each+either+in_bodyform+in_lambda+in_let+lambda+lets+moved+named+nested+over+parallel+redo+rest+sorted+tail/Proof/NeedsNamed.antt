@@ -3,8 +3,8 @@ use borrow.Author.Needs.{needs}
 use native.Mathlib.Omega.{arith}
 use Prim.Native.Nat.{ℕ}
 use Rattle.walk.proofs.bodies.named.Reads as named
-use Rattle.walk.proofs.bodies.+args_bodyform+args_let+args_then_in+assign+assign_binding+bind+bind_all+call+captured+complex+desugared+either+elements+in_bodyform+in_lambda+in_let+lambda+named+ordered+over+parallel+patterned+remake+rename_assign_bindings+sequential+tail+turned.Lts-named as named-lts
-use Rattle.walk.proofs.bodies.+args_bodyform+args_let+args_then_in+assign+assign_binding+bind+bind_all+call+captured+complex+desugared+either+elements+in_bodyform+in_lambda+in_let+lambda+named+ordered+over+parallel+patterned+remake+rename_assign_bindings+sequential+tail+turned.Proof.Base.{named-at, named-calls}
+use Rattle.walk.proofs.bodies.+args_bodyform+assign+assign_all+assign_one+bind+binds+both+bound+call+chain+complex+each+either+in_bodyform+in_lambda+in_let+lambda+lets+moved+named+nested+over+parallel+redo+rest+sorted+tail.Lts-named as named-lts
+use Rattle.walk.proofs.bodies.+args_bodyform+assign+assign_all+assign_one+bind+binds+both+bound+call+chain+complex+each+either+in_bodyform+in_lambda+in_let+lambda+lets+moved+named+nested+over+parallel+redo+rest+sorted+tail.Proof.Base.{named-at, named-calls}
 use Rattle.walk.proofs.NamedLaws.{own-low, own-cut, own-ready, own-refused, own-short, own-over, remake-ready, named-done}
 
 -- places
@@ -62,11 +62,11 @@ module _ (t : ℕ) where
       let d = owned t e in
       own-over (start t (d .before) .pre .1) (d .args-bodyform .ensures) (e .before .w .given .1) (c .placeless .ensures) (c .before .if1 .taken)
 
-  pub add-remake : named-lts.Need-add-remake (named-calls t) (named-at t) named.Post
-  add-remake c = search needs
+  pub add-redo : named-lts.Need-add-redo (named-calls t) (named-at t) named.Post
+  add-redo c = search needs
 
-  pub remake-requires : named-lts.Need-remake-requires (named-calls t) (named-at t) named.Post
-  remake-requires c κs =
+  pub redo-requires : named-lts.Need-redo-requires (named-calls t) (named-at t) named.Post
+  redo-requires c κs =
       let e = c .before .before .before in
       let d = owned t e in
       let s = start t (d .before) in
@@ -87,4 +87,4 @@ module _ (t : ℕ) where
       let i = y .before .before in
       let e = i .before .before in
       let d = owned t e in
-      named-done (start t (d .before) .pre .1) (d .args-bodyform .ensures) (e .before .w .given .1) (omega (arith, i .if1 .left)) (y .remake .ensures)
+      named-done (start t (d .before) .pre .1) (d .args-bodyform .ensures) (e .before .w .given .1) (omega (arith, i .if1 .left)) (y .redo .ensures)

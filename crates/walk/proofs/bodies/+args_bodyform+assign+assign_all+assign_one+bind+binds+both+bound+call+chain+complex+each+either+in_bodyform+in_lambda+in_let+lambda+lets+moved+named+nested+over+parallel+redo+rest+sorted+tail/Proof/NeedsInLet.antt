@@ -4,8 +4,8 @@ use borrow.Author.Needs.{needs}
 use native.Mathlib.Omega.{arith}
 use Prim.Native.Nat.{ℕ}
 use Rattle.walk.proofs.bodies.in_let.Reads as in-let
-use Rattle.walk.proofs.bodies.+args_bodyform+args_let+args_then_in+assign+assign_binding+bind+bind_all+call+captured+complex+desugared+either+elements+in_bodyform+in_lambda+in_let+lambda+named+ordered+over+parallel+patterned+remake+rename_assign_bindings+sequential+tail+turned.Lts-in_let as in-let-lts
-use Rattle.walk.proofs.bodies.+args_bodyform+args_let+args_then_in+assign+assign_binding+bind+bind_all+call+captured+complex+desugared+either+elements+in_bodyform+in_lambda+in_let+lambda+named+ordered+over+parallel+patterned+remake+rename_assign_bindings+sequential+tail+turned.Proof.Base.{in-let-at, in-let-calls}
+use Rattle.walk.proofs.bodies.+args_bodyform+assign+assign_all+assign_one+bind+binds+both+bound+call+chain+complex+each+either+in_bodyform+in_lambda+in_let+lambda+lets+moved+named+nested+over+parallel+redo+rest+sorted+tail.Lts-in_let as in-let-lts
+use Rattle.walk.proofs.bodies.+args_bodyform+assign+assign_all+assign_one+bind+binds+both+bound+call+chain+complex+each+either+in_bodyform+in_lambda+in_let+lambda+lets+moved+named+nested+over+parallel+redo+rest+sorted+tail.Proof.Base.{in-let-at, in-let-calls}
 
 -- places
 module _ (t : ℕ) where
@@ -18,10 +18,10 @@ module _ (t : ℕ) where
   abbrev copied : in-let-lts.After-struct-known (in-let-calls t) (in-let-at t) in-let.Post → in-let-lts.After-copy (in-let-calls t) (in-let-at t) in-let.Post
   copied c = c .before .before .before .before
 
-  abbrev bound : in-let-lts.After-r2 (in-let-calls t) (in-let-at t) in-let.Post → in-let-lts.After-bind-all (in-let-calls t) (in-let-at t) in-let.Post
+  abbrev bound : in-let-lts.After-r2 (in-let-calls t) (in-let-at t) in-let.Post → in-let-lts.After-binds (in-let-calls t) (in-let-at t) in-let.Post
   bound c = c .before .before .before .before
 
-  abbrev refused : in-let-lts.After-r (in-let-calls t) (in-let-at t) in-let.Post → in-let-lts.After-bind-all (in-let-calls t) (in-let-at t) in-let.Post
+  abbrev refused : in-let-lts.After-r (in-let-calls t) (in-let-at t) in-let.Post → in-let-lts.After-binds (in-let-calls t) (in-let-at t) in-let.Post
   refused c = c .before .before .before .before
 
   abbrev told : in-let-lts.After-in-bodyform (in-let-calls t) (in-let-at t) in-let.Post → in-let-lts.After-r2 (in-let-calls t) (in-let-at t) in-let.Post
@@ -43,22 +43,22 @@ module _ (t : ℕ) where
       let v = c .before in
       copy-moves (v .let-view .ensures) (start t v .pre .1)
 
-  pub sub-bind-all : in-let-lts.Need-sub-bind-all (in-let-calls t) (in-let-at t) in-let.Post
-  sub-bind-all c = search needs
+  pub sub-binds : in-let-lts.Need-sub-binds (in-let-calls t) (in-let-at t) in-let.Post
+  sub-binds c = search needs
 
-  pub part-bind-all-start : in-let-lts.Need-part-bind-all-start (in-let-calls t) (in-let-at t) in-let.Post
-  part-bind-all-start c = search needs
+  pub part-binds-start : in-let-lts.Need-part-binds-start (in-let-calls t) (in-let-at t) in-let.Post
+  part-binds-start c = search needs
 
-  pub part-bind-all-end : in-let-lts.Need-part-bind-all-end (in-let-calls t) (in-let-at t) in-let.Post
-  part-bind-all-end c = search needs
+  pub part-binds-end : in-let-lts.Need-part-binds-end (in-let-calls t) (in-let-at t) in-let.Post
+  part-binds-end c = search needs
 
   pub sub-t27 : in-let-lts.Need-sub-t27 (in-let-calls t) (in-let-at t) in-let.Post
   sub-t27 c =
       let v = viewed t (copied t c) in
       deep (v .let-view .ensures) (start t v .pre .1)
 
-  pub bind-all-requires : in-let-lts.Need-bind-all-requires (in-let-calls t) (in-let-at t) in-let.Post
-  bind-all-requires c κs =
+  pub binds-requires : in-let-lts.Need-binds-requires (in-let-calls t) (in-let-at t) in-let.Post
+  binds-requires c κs =
       let w = copied t c in
       let v = viewed t w in
       let s = start t v in
@@ -78,7 +78,7 @@ module _ (t : ℕ) where
       let w = copied t (b .before) in
       let v = viewed t w in
       let s = start t v in
-      omega (arith, reads (v .let-view .ensures) (s .pre .1) (w .copy .ensures) (b .bind-all .ensures) _ _ _ _ (r .r2 .given .1), s .good)
+      omega (arith, reads (v .let-view .ensures) (s .pre .1) (w .copy .ensures) (b .binds .ensures) _ _ _ _ (r .r2 .given .1), s .good)
 
   pub sub-in-bodyform : in-let-lts.Need-sub-in-bodyform (in-let-calls t) (in-let-at t) in-let.Post
   sub-in-bodyform c =
@@ -86,7 +86,7 @@ module _ (t : ℕ) where
       let b = bound t r in
       let w = copied t (b .before) in
       let v = viewed t w in
-      omega (arith, reads (v .let-view .ensures) (start t v .pre .1) (w .copy .ensures) (b .bind-all .ensures) _ _ _ _ (r .r2 .given .1))
+      omega (arith, reads (v .let-view .ensures) (start t v .pre .1) (w .copy .ensures) (b .binds .ensures) _ _ _ _ (r .r2 .given .1))
 
   pub part-in-bodyform-start : in-let-lts.Need-part-in-bodyform-start (in-let-calls t) (in-let-at t) in-let.Post
   part-in-bodyform-start c = sub-in-bodyform c
@@ -106,7 +106,7 @@ module _ (t : ℕ) where
       let s = start t v in
       let x = v .let-view .ensures in
       let p = s .pre .1 in
-      omega (arith, written x p (w .copy .ensures) (b .bind-all .ensures) _ _ _ _ (r .r2 .given .1), wide x p, s .good)
+      omega (arith, written x p (w .copy .ensures) (b .binds .ensures) _ _ _ _ (r .r2 .given .1), wide x p, s .good)
 
   pub sub-t37 : in-let-lts.Need-sub-t37 (in-let-calls t) (in-let-at t) in-let.Post
   sub-t37 c =
@@ -114,7 +114,7 @@ module _ (t : ℕ) where
       let b = bound t r in
       let w = copied t (b .before) in
       let v = viewed t w in
-      omega (arith, past (v .let-view .ensures) (start t v .pre .1) (w .copy .ensures) (b .bind-all .ensures) _ _ _ _ (r .r2 .given .1))
+      omega (arith, past (v .let-view .ensures) (start t v .pre .1) (w .copy .ensures) (b .binds .ensures) _ _ _ _ (r .r2 .given .1))
 
   pub sub-t38 : in-let-lts.Need-sub-t38 (in-let-calls t) (in-let-at t) in-let.Post
   sub-t38 c =
@@ -131,7 +131,7 @@ module _ (t : ℕ) where
       let s = start t v in
       let x = v .let-view .ensures in
       let p = s .pre .1 in
-      (omega (arith, s .pre .0, deep x p), body-ready x p (w .copy .ensures) (b .bind-all .ensures) _ _ _ _ (r .r2 .given .1))
+      (omega (arith, s .pre .0, deep x p), body-ready x p (w .copy .ensures) (b .binds .ensures) _ _ _ _ (r .r2 .given .1))
 
   pub enum-known-r-3 : in-let-lts.Need-enum-known-r-3 (in-let-calls t) (in-let-at t) in-let.Post
   enum-known-r-3 c = search needs
@@ -151,7 +151,7 @@ module _ (t : ℕ) where
       let x = v .let-view .ensures in
       let p = s .pre .1 in
       let f = w .copy .ensures in
-      let g = b .bind-all .ensures in
+      let g = b .binds .ensures in
       let e = r .r2 .given .1 in
       omega (arith, body-sizes x p f g _ _ _ _ e (y .in-bodyform .ensures) _ _ _ (i .i .given .1) .1, summed x p f g _ _ _ _ e, p .longest, s .good)
 
@@ -167,7 +167,7 @@ module _ (t : ℕ) where
       let b = bound t r in
       let w = copied t (b .before) in
       let v = viewed t w in
-      body-over (v .let-view .ensures) (start t v .pre .1) (w .copy .ensures) (b .bind-all .ensures) _ _ _ _ (r .r2 .given .1) (y .in-bodyform .ensures) _ _ _ (i .i .given .1) (o .if1 .taken) (c .over-long .ensures)
+      body-over (v .let-view .ensures) (start t v .pre .1) (w .copy .ensures) (b .binds .ensures) _ _ _ _ (r .r2 .given .1) (y .in-bodyform .ensures) _ _ _ (i .i .given .1) (o .if1 .taken) (c .over-long .ensures)
 
   pub same-length : in-let-lts.Need-same-length (in-let-calls t) (in-let-at t) in-let.Post
   same-length c = search needs
@@ -183,7 +183,7 @@ module _ (t : ℕ) where
       let s = start t v in
       let x = v .let-view .ensures in
       let p = s .pre .1 in
-      omega (arith, body-sizes x p (w .copy .ensures) (b .bind-all .ensures) _ _ _ _ (r .r2 .given .1) (y .in-bodyform .ensures) _ _ _ (i .i .given .1) .0, wide x p, s .good)
+      omega (arith, body-sizes x p (w .copy .ensures) (b .binds .ensures) _ _ _ _ (r .r2 .given .1) (y .in-bodyform .ensures) _ _ _ (i .i .given .1) .0, wide x p, s .good)
 
   pub add-finished-2 : in-let-lts.Need-add-finished-2 (in-let-calls t) (in-let-at t) in-let.Post
   add-finished-2 c =
@@ -192,7 +192,7 @@ module _ (t : ℕ) where
       let w = copied t (b .before) in
       let v = viewed t w in
       let p = start t v .pre .1 in
-      omega (arith, written (v .let-view .ensures) p (w .copy .ensures) (b .bind-all .ensures) _ _ _ _ (r .r2 .given .1), p .longest)
+      omega (arith, written (v .let-view .ensures) p (w .copy .ensures) (b .binds .ensures) _ _ _ _ (r .r2 .given .1), p .longest)
 
   pub add-finished-3 : in-let-lts.Need-add-finished-3 (in-let-calls t) (in-let-at t) in-let.Post
   add-finished-3 c =
@@ -203,7 +203,7 @@ module _ (t : ℕ) where
       let w = copied t (b .before) in
       let v = viewed t w in
       let s = start t v in
-      omega (arith, body-sizes (v .let-view .ensures) (s .pre .1) (w .copy .ensures) (b .bind-all .ensures) _ _ _ _ (r .r2 .given .1) (y .in-bodyform .ensures) _ _ _ (i .i .given .1) .1, s .good)
+      omega (arith, body-sizes (v .let-view .ensures) (s .pre .1) (w .copy .ensures) (b .binds .ensures) _ _ _ _ (r .r2 .given .1) (y .in-bodyform .ensures) _ _ _ (i .i .given .1) .1, s .good)
 
   pub finished-requires : in-let-lts.Need-finished-requires (in-let-calls t) (in-let-at t) in-let.Post
   finished-requires c κs = search needs
@@ -214,7 +214,7 @@ module _ (t : ℕ) where
       let b = refused t r in
       let w = copied t (b .before) in
       let v = viewed t w in
-      bindings-refused (v .let-view .ensures) (start t v .pre .1) (w .copy .ensures) (b .bind-all .ensures) _ (r .r .given .1)
+      bindings-refused (v .let-view .ensures) (start t v .pre .1) (w .copy .ensures) (b .binds .ensures) _ (r .r .given .1)
 
   pub same-length-2 : in-let-lts.Need-same-length-2 (in-let-calls t) (in-let-at t) in-let.Post
   same-length-2 c = search needs
@@ -227,7 +227,7 @@ module _ (t : ℕ) where
       let b = bound t r in
       let w = copied t (b .before) in
       let v = viewed t w in
-      body-refused (v .let-view .ensures) (start t v .pre .1) (w .copy .ensures) (b .bind-all .ensures) _ _ _ _ (r .r2 .given .1) (y .in-bodyform .ensures) _ (z .r3 .given .1)
+      body-refused (v .let-view .ensures) (start t v .pre .1) (w .copy .ensures) (b .binds .ensures) _ _ _ _ (r .r2 .given .1) (y .in-bodyform .ensures) _ (z .r3 .given .1)
 
   pub same-length-3 : in-let-lts.Need-same-length-3 (in-let-calls t) (in-let-at t) in-let.Post
   same-length-3 c = search needs
@@ -241,7 +241,7 @@ module _ (t : ℕ) where
       let b = bound t r in
       let w = copied t (b .before) in
       let v = viewed t w in
-      let-finished (v .let-view .ensures) (start t v .pre .1) (w .copy .ensures) (b .bind-all .ensures) _ _ _ _ (r .r2 .given .1) (y .in-bodyform .ensures) _ _ _ (i .i .given .1) (omega (arith, o .if1 .left)) (c .finished .ensures)
+      let-finished (v .let-view .ensures) (start t v .pre .1) (w .copy .ensures) (b .binds .ensures) _ _ _ _ (r .r2 .given .1) (y .in-bodyform .ensures) _ _ _ (i .i .given .1) (omega (arith, o .if1 .left)) (c .finished .ensures)
 
   pub same-length-4 : in-let-lts.Need-same-length-4 (in-let-calls t) (in-let-at t) in-let.Post
   same-length-4 c = search needs

@@ -4,8 +4,8 @@ use native.Mathlib.Omega.{arith}
 use Prim.Native.Nat.{ℕ}
 use Rattle.walk.proofs.InLambdaLaws.{widths, head-moves, captures-ready, captured-ready, lambda-refused, lambda-answers}
 use Rattle.walk.proofs.bodies.in_lambda.Reads as in-lambda
-use Rattle.walk.proofs.bodies.+args_bodyform+args_let+args_then_in+assign+assign_binding+bind+bind_all+call+captured+complex+desugared+either+elements+in_bodyform+in_lambda+in_let+lambda+named+ordered+over+parallel+patterned+remake+rename_assign_bindings+sequential+tail+turned.Lts-in_lambda as in-lambda-lts
-use Rattle.walk.proofs.bodies.+args_bodyform+args_let+args_then_in+assign+assign_binding+bind+bind_all+call+captured+complex+desugared+either+elements+in_bodyform+in_lambda+in_let+lambda+named+ordered+over+parallel+patterned+remake+rename_assign_bindings+sequential+tail+turned.Proof.Base.{in-lambda-at, in-lambda-calls}
+use Rattle.walk.proofs.bodies.+args_bodyform+assign+assign_all+assign_one+bind+binds+both+bound+call+chain+complex+each+either+in_bodyform+in_lambda+in_let+lambda+lets+moved+named+nested+over+parallel+redo+rest+sorted+tail.Lts-in_lambda as in-lambda-lts
+use Rattle.walk.proofs.bodies.+args_bodyform+assign+assign_all+assign_one+bind+binds+both+bound+call+chain+complex+each+either+in_bodyform+in_lambda+in_let+lambda+lets+moved+named+nested+over+parallel+redo+rest+sorted+tail.Proof.Base.{in-lambda-at, in-lambda-calls}
 
 -- places
 module _ (t : ℕ) where
@@ -24,7 +24,7 @@ module _ (t : ℕ) where
   abbrev captures : in-lambda-lts.After-x (in-lambda-calls t) (in-lambda-at t) in-lambda.Post → in-lambda-lts.After-in-bodyform (in-lambda-calls t) (in-lambda-at t) in-lambda.Post
   captures c = c .before .before .before .before
 
-  abbrev answered : in-lambda-lts.After-captured (in-lambda-calls t) (in-lambda-at t) in-lambda.Post → in-lambda-lts.After-x (in-lambda-calls t) (in-lambda-at t) in-lambda.Post
+  abbrev answered : in-lambda-lts.After-rest (in-lambda-calls t) (in-lambda-at t) in-lambda.Post → in-lambda-lts.After-x (in-lambda-calls t) (in-lambda-at t) in-lambda.Post
   answered c = c .before .before .before
 
 -- needs
@@ -102,8 +102,8 @@ module _ (t : ℕ) where
   pub enum-known-x : in-lambda-lts.Need-enum-known-x (in-lambda-calls t) (in-lambda-at t) in-lambda.Post
   enum-known-x c = search needs
 
-  pub captured-requires : in-lambda-lts.Need-captured-requires (in-lambda-calls t) (in-lambda-at t) in-lambda.Post
-  captured-requires c κs =
+  pub rest-requires : in-lambda-lts.Need-rest-requires (in-lambda-calls t) (in-lambda-at t) in-lambda.Post
+  rest-requires c κs =
       let x = c .before .before in
       let b = captures t x in
       let k = copied t (b .before .before) in
@@ -133,4 +133,4 @@ module _ (t : ℕ) where
       let k = copied t (b .before .before) in
       let v = viewed t k in
       let s = start t v in
-      lambda-answers (s .pre .1) (v .lambda-view .ensures) (k .copy .ensures) (b .in-bodyform .ensures) _ _ _ (x .x .given .1) (y .captured .ensures)
+      lambda-answers (s .pre .1) (v .lambda-view .ensures) (k .copy .ensures) (b .in-bodyform .ensures) _ _ _ (x .x .given .1) (y .rest .ensures)

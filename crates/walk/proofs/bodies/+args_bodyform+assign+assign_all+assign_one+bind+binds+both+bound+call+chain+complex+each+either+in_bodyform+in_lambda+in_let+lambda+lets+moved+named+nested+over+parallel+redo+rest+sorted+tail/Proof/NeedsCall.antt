@@ -5,8 +5,8 @@ use Prim.Native.Nat.{ℕ, _+_, _≤_}
 use Rattle.records.specs.Limits.{most-longest}
 use Rattle.walk.proofs.CallLaws.{levels, first-wide, head-moves, elements-ready, middle-frame, elements-refused, call-short, tail-starts, some-wide, tail-ready, tail-refused, call-sums, call-finished}
 use Rattle.walk.proofs.bodies.call.Reads as call
-use Rattle.walk.proofs.bodies.+args_bodyform+args_let+args_then_in+assign+assign_binding+bind+bind_all+call+captured+complex+desugared+either+elements+in_bodyform+in_lambda+in_let+lambda+named+ordered+over+parallel+patterned+remake+rename_assign_bindings+sequential+tail+turned.Lts-call as call-lts
-use Rattle.walk.proofs.bodies.+args_bodyform+args_let+args_then_in+assign+assign_binding+bind+bind_all+call+captured+complex+desugared+either+elements+in_bodyform+in_lambda+in_let+lambda+named+ordered+over+parallel+patterned+remake+rename_assign_bindings+sequential+tail+turned.Proof.Base.{call-at, call-calls}
+use Rattle.walk.proofs.bodies.+args_bodyform+assign+assign_all+assign_one+bind+binds+both+bound+call+chain+complex+each+either+in_bodyform+in_lambda+in_let+lambda+lets+moved+named+nested+over+parallel+redo+rest+sorted+tail.Lts-call as call-lts
+use Rattle.walk.proofs.bodies.+args_bodyform+assign+assign_all+assign_one+bind+binds+both+bound+call+chain+complex+each+either+in_bodyform+in_lambda+in_let+lambda+lets+moved+named+nested+over+parallel+redo+rest+sorted+tail.Proof.Base.{call-at, call-calls}
 
 -- places
 module _ (t : ℕ) where
@@ -19,10 +19,10 @@ module _ (t : ℕ) where
   abbrev copied : call-lts.After-struct-known (call-calls t) (call-at t) call.Post → call-lts.After-copy (call-calls t) (call-at t) call.Post
   copied c = c .before .before .before .before
 
-  abbrev refused : call-lts.After-r (call-calls t) (call-at t) call.Post → call-lts.After-elements (call-calls t) (call-at t) call.Post
+  abbrev refused : call-lts.After-r (call-calls t) (call-at t) call.Post → call-lts.After-each (call-calls t) (call-at t) call.Post
   refused c = c .before .before .before .before
 
-  abbrev walked : call-lts.After-known-told2 (call-calls t) (call-at t) call.Post → call-lts.After-elements (call-calls t) (call-at t) call.Post
+  abbrev walked : call-lts.After-known-told2 (call-calls t) (call-at t) call.Post → call-lts.After-each (call-calls t) (call-at t) call.Post
   walked c = c .before .before .before .before .before
 
   abbrev told : call-lts.After-tail (call-calls t) (call-at t) call.Post → call-lts.After-known-told2 (call-calls t) (call-at t) call.Post
@@ -44,7 +44,7 @@ module _ (t : ℕ) where
       let a = walked t c in
       let w = copied t (a .before) in
       let v = viewed t w in
-      tail-starts (v .call-view .ensures) (start t v .pre .1) (w .copy .ensures) (a .elements .ensures) _ _ _ _ (c .before .r2 .given .1)
+      tail-starts (v .call-view .ensures) (start t v .pre .1) (w .copy .ensures) (a .each .ensures) _ _ _ _ (c .before .r2 .given .1)
 
   read-fits : call-lts.Need-sub-tail (call-calls t) (call-at t) call.Post
   read-fits c =
@@ -53,7 +53,7 @@ module _ (t : ℕ) where
       let v = viewed t w in
       let x = v .call-view .ensures in
       let p = start t v .pre .1 in
-      omega (arith, first-read c, first-wide x p, middle-frame x p (w .copy .ensures) (a .elements .ensures) .size)
+      omega (arith, first-read c, first-wide x p, middle-frame x p (w .copy .ensures) (a .each .ensures) .size)
 
   -- how long the head, the elements, what was read, and the tail are, and F
   lengths : (c : call-lts.After-known-told4 (call-calls t) (call-at t) call.Post)
@@ -68,8 +68,8 @@ module _ (t : ℕ) where
       let v = viewed t w in
       let x = v .call-view .ensures in
       let p = start t v .pre .1 in
-      let n = call-short x p (w .copy .ensures) (a .elements .ensures) _ _ _ _ (k .before .r2 .given .1) in
-      let m = call-sums x p (w .copy .ensures) (a .elements .ensures) _ _ _ _ (k .before .r2 .given .1) (e .tail .ensures) _ _ _ _ (i .i .given .1) in
+      let n = call-short x p (w .copy .ensures) (a .each .ensures) _ _ _ _ (k .before .r2 .given .1) in
+      let m = call-sums x p (w .copy .ensures) (a .each .ensures) _ _ _ _ (k .before .r2 .given .1) (e .tail .ensures) _ _ _ _ (i .i .given .1) in
       (n .0, n .1, m .0, m .1, p .longest)
 
 -- needs
@@ -80,22 +80,22 @@ module _ (t : ℕ) where
   pub copy-requires : call-lts.Need-copy-requires (call-calls t) (call-at t) call.Post
   copy-requires c κs = head-moves (c .before .call-view .ensures) (start t (c .before) .pre .1)
 
-  pub sub-elements : call-lts.Need-sub-elements (call-calls t) (call-at t) call.Post
-  sub-elements c = search needs
+  pub sub-each : call-lts.Need-sub-each (call-calls t) (call-at t) call.Post
+  sub-each c = search needs
 
-  pub part-elements-start : call-lts.Need-part-elements-start (call-calls t) (call-at t) call.Post
-  part-elements-start c = search needs
+  pub part-each-start : call-lts.Need-part-each-start (call-calls t) (call-at t) call.Post
+  part-each-start c = search needs
 
-  pub part-elements-end : call-lts.Need-part-elements-end (call-calls t) (call-at t) call.Post
-  part-elements-end c = search needs
+  pub part-each-end : call-lts.Need-part-each-end (call-calls t) (call-at t) call.Post
+  part-each-end c = search needs
 
   pub sub-t28 : call-lts.Need-sub-t28 (call-calls t) (call-at t) call.Post
   sub-t28 c =
       let v = viewed t (copied t c) in
       levels (v .call-view .ensures) (start t v .pre .1)
 
-  pub elements-requires : call-lts.Need-elements-requires (call-calls t) (call-at t) call.Post
-  elements-requires c κs =
+  pub each-requires : call-lts.Need-each-requires (call-calls t) (call-at t) call.Post
+  each-requires c κs =
       let w = copied t c in
       let v = viewed t w in
       let s = start t v in
@@ -130,7 +130,7 @@ module _ (t : ℕ) where
       let w = copied t (a .before) in
       let v = viewed t w in
       let s = start t v in
-      omega (arith, some-wide (v .call-view .ensures) (s .pre .1) (w .copy .ensures) (a .elements .ensures) _ _ _ _ (c .before .before .r2 .given .1), s .good)
+      omega (arith, some-wide (v .call-view .ensures) (s .pre .1) (w .copy .ensures) (a .each .ensures) _ _ _ _ (c .before .before .r2 .given .1), s .good)
 
   pub sub-t38 : call-lts.Need-sub-t38 (call-calls t) (call-at t) call.Post
   sub-t38 c = omega (arith, first-read t (c .before))
@@ -147,7 +147,7 @@ module _ (t : ℕ) where
       let w = copied t (a .before) in
       let v = viewed t w in
       let s = start t v in
-      (omega (arith, s .pre .0, levels (v .call-view .ensures) (s .pre .1)), tail-ready (v .call-view .ensures) (s .pre .1) (w .copy .ensures) (a .elements .ensures) _ _ _ _ (k .before .r2 .given .1))
+      (omega (arith, s .pre .0, levels (v .call-view .ensures) (s .pre .1)), tail-ready (v .call-view .ensures) (s .pre .1) (w .copy .ensures) (a .each .ensures) _ _ _ _ (k .before .r2 .given .1))
 
   pub enum-known-r-3 : call-lts.Need-enum-known-r-3 (call-calls t) (call-at t) call.Post
   enum-known-r-3 c = search needs
@@ -182,7 +182,7 @@ module _ (t : ℕ) where
       let a = refused t r in
       let w = copied t (a .before) in
       let v = viewed t w in
-      elements-refused (v .call-view .ensures) (start t v .pre .1) (w .copy .ensures) (a .elements .ensures) _ (r .r .given .1)
+      elements-refused (v .call-view .ensures) (start t v .pre .1) (w .copy .ensures) (a .each .ensures) _ (r .r .given .1)
 
   pub same-length-2 : call-lts.Need-same-length-2 (call-calls t) (call-at t) call.Post
   same-length-2 c = search needs
@@ -195,7 +195,7 @@ module _ (t : ℕ) where
       let a = walked t k in
       let w = copied t (a .before) in
       let v = viewed t w in
-      tail-refused (v .call-view .ensures) (start t v .pre .1) (w .copy .ensures) (a .elements .ensures) _ _ _ _ (k .before .r2 .given .1) (e .tail .ensures) _ (r .r3 .given .1)
+      tail-refused (v .call-view .ensures) (start t v .pre .1) (w .copy .ensures) (a .each .ensures) _ _ _ _ (k .before .r2 .given .1) (e .tail .ensures) _ (r .r3 .given .1)
 
   pub same-length-3 : call-lts.Need-same-length-3 (call-calls t) (call-at t) call.Post
   same-length-3 c = search needs
@@ -208,4 +208,4 @@ module _ (t : ℕ) where
       let a = walked t k in
       let w = copied t (a .before) in
       let v = viewed t w in
-      call-finished (v .call-view .ensures) (start t v .pre .1) (w .copy .ensures) (a .elements .ensures) _ _ _ _ (k .before .r2 .given .1) (e .tail .ensures) _ _ _ _ (i .i .given .1) (c .finished .ensures)
+      call-finished (v .call-view .ensures) (start t v .pre .1) (w .copy .ensures) (a .each .ensures) _ _ _ _ (k .before .r2 .given .1) (e .tail .ensures) _ _ _ _ (i .i .given .1) (c .finished .ensures)
