@@ -26,7 +26,7 @@ use Prim.Native.Nat.{ℕ, _+_, _*_, _-_}
 use Prim.Native.String.{String, [] as []ˢ, _∷_ as _∷ˢ_}
 use lib.Dec.{ltb}
 use lib.ListN.{length, replicate}
-use Rattle.names.specs.Answers.{Result, name-call}
+use Rattle.names.specs.CallAnswer.{Result, name-call}
 use Rattle.names.specs.Names.{Bytes}
 use Rattle.ordering.specs.OrderCall.{order-call}
 use Rattle.walk.specs.Calls.{computing-all, whole-call, children-call, helper-call}
@@ -56,7 +56,7 @@ abbrev pub Seen : Type 0
 Seen = ℕ × ℕ × ℕ × ℕ × Bytes
 
 abbrev pub seen : Result → Seen
-seen r = (r .0 .number, r .0 .place, r .0 .counter, r .0 .len, r .1)
+seen r = (r .0 .refusal .number, r .0 .refusal .place .start, r .0 .counter, r .0 .len, r .1)
 
 -- with a buffer of b bytes 7
 abbrev pub run : Call → ℕ → ℕ → ℕ → ℕ → String → Seen
