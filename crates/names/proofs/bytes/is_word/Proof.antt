@@ -17,12 +17,16 @@ returns c =
 
 returns-2 : tie.Need-returns-2
 returns-2 c =
-    let a = c .before .before .before .before .args in
+    let back = c .before .before .before in
+    let at-start = back .before in
+    let a = at-start .args in
     sym (same-few (drop (a .at) (a .s .now)) (a .word .now) (λ lt. omega (arith, length-drop (a .at) (a .s .now))))
 
 returns-3 : tie.Need-returns-3
 returns-3 c =
-    let a = c .before .before .before .before .before .before .args in
+    let back = c .before .before .before in
+    let at-start = back .before .before .before in
+    let a = at-start .args in
     let e : a .at + length (a .word .now) - a .at ≡ length (a .word .now) = omega arith in
     c .same .ensures ∙ ap (λ (k : ℕ). same (take k (drop (a .at) (a .s .now))) (a .word .now)) e
 

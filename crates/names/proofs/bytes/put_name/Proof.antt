@@ -7,7 +7,10 @@ use Rattle.names.proofs.bytes.put_name.Tie as tie
 
 -- from the number back to the start
 abbrev start : tie.After-put-number → tie.Start
-start c = c .before .before .before .before
+start c =
+    let back = c .before .before .before in
+    let there = back .before in
+    there
 
 put-number-requires : tie.Need-put-number-requires
 put-number-requires c κs = let l = name-field-length (c .before .before .before .args .name .now) in (omega arith, omega arith)

@@ -17,12 +17,16 @@ abbrev μ-loop : tie.MeasureT-loop
 
 returns-2 : tie.Need-returns-2 Inv-loop μ-loop
 returns-2 c =
-    let l = c .before .before .before .before .loop in
+    let back = c .before .before .before in
+    let at-loop = back .before in
+    let l = at-loop .loop in
     sym (same-stop _ _ (l .i) (omega arith) (omega arith) (c .if2 .taken)) ∙ l .inv .2
 
 loop-again : tie.Need-loop-again Inv-loop μ-loop
 loop-again c =
-    let l = c .before .before .before .before .loop in
+    let back = c .before .before .before in
+    let at-loop = back .before in
+    let l = at-loop .loop in
     (omega arith, l .inv .1, same-go _ _ (l .i) (omega arith) (omega arith) (c .if2 .left) ∙ l .inv .2)
 
 returns-3 : tie.Need-returns-3 Inv-loop μ-loop

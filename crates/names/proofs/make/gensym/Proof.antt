@@ -14,13 +14,25 @@ unfolding ascii
 room c = omega (arith, gensym-length (c .args .name .now) (c .args .counter))
 
 start : tie.After-gensym-len → tie.Start
-start c = c .before .before .before .before .before .before .before .before .before .before .before .before .before .before .before .before .before
+start c =
+    let back = c .before .before .before in
+    let back-2 = back .before .before .before in
+    let back-3 = back-2 .before .before .before in
+    let back-4 = back-3 .before .before .before in
+    let back-5 = back-4 .before .before .before in
+    let there = back-5 .before .before in
+    there
 
 returns : tie.Need-returns
 unfolding ascii start
 returns c =
+    let at-put-decimal = c .before .before .before in
+    let back = at-put-decimal .before .before .before in
+    let at-put2 = back .before in
+    let back-2 = at-put2 .before .before .before in
+    let at-put = back-2 .before .before in
     let a = start c .args in
-    let made = gensym-written (a .name .now) (a .counter) (c .before .before .before .before .before .before .before .before .before .before .before .before .put .ensures) (c .before .before .before .before .before .before .before .put2 .ensures) (c .before .before .before .put-decimal .ensures) in
+    let made = gensym-written (a .name .now) (a .counter) (at-put .put .ensures) (at-put2 .put2 .ensures) (at-put-decimal .put-decimal .ensures) in
     (c .gensym-len .ensures, made (start c .pre .1))
 
 pub gensym-spec : {M : Type 1} → statement M

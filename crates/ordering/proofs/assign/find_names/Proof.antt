@@ -23,8 +23,10 @@ loop-holds c = (omega arith, refl, refl, λ bs b. found-none bs (b .there))
 
 binding-names-requires : tie.Need-binding-names-requires Inv-loop μ-loop
 binding-names-requires c κs =
-    let start = c .before .before .before .before .before .before in
-    let l = c .before .before .loop in
+    let at-loop = c .before .before in
+    let back = at-loop .before .before .before in
+    let start = back .before in
+    let l = at-loop .loop in
     let w = start .pre .1 in
     let f = l .inv .3 (w .0) (w .1) in
     (omega (arith, f .rest .fits), start .pre .0 .0, next-few f (w .1 .valid .1) (omega (arith, w .1 .count)) (start .pre .0 .0) (l .inv .1 ∙ start .pre .0 .1))
@@ -37,22 +39,30 @@ slice-write-bodies c = search needs
 
 past-record-requires : tie.Need-past-record-requires Inv-loop μ-loop
 past-record-requires c κs =
-    let start = c .before .before .before .before .before .before .before .before .before in
-    let l = c .before .before .before .before .before .loop in
+    let at-binding-names = c .before .before in
+    let at-loop = at-binding-names .before .before .before in
+    let back = at-loop .before .before .before in
+    let start = back .before in
+    let l = at-loop .loop in
     let w = start .pre .1 in
-    next-body (l .inv .3 (w .0) (w .1)) (w .1 .valid .1) (omega (arith, w .1 .count)) (start .pre .0 .0) (l .inv .1 ∙ start .pre .0 .1) (c .before .before .binding-names .ensures)
+    next-body (l .inv .3 (w .0) (w .1)) (w .1 .valid .1) (omega (arith, w .1 .count)) (start .pre .0 .0) (l .inv .1 ∙ start .pre .0 .1) (at-binding-names .binding-names .ensures)
 
 loop-less : tie.Need-loop-less Inv-loop μ-loop
 loop-less c =
-    let l = c .before .before .before .before .before .before .loop in
-    omega (arith, length-set (l .bodies) (l .j) (c .before .before .before .binding-names .result .end))
+    let at-binding-names = c .before .before .before in
+    let at-loop = at-binding-names .before .before .before in
+    let l = at-loop .loop in
+    omega (arith, length-set (l .bodies) (l .j) (at-binding-names .binding-names .result .end))
 
 loop-again : tie.Need-loop-again Inv-loop μ-loop
 loop-again c =
-    let start = c .before .before .before .before .before .before .before .before .before .before in
-    let l = c .before .before .before .before .before .before .loop in
-    let size = c .before .before .before .binding-names .kept .1 .1 .0 in
-    (omega (arith, length-set (l .bodies) (l .j) (c .before .before .before .binding-names .result .end)), size ∙ l .inv .1, length-set (l .bodies) (l .j) _ ∙ l .inv .2, λ bs b. found-step (l .inv .3 bs b) (b .valid .1) (omega (arith, b .count)) (start .pre .0 .0) (l .inv .1 ∙ start .pre .0 .1) (c .before .before .before .binding-names .ensures) (omega arith) (c .past-record .ensures))
+    let at-binding-names = c .before .before .before in
+    let at-loop = at-binding-names .before .before .before in
+    let back = at-loop .before .before .before in
+    let start = back .before in
+    let l = at-loop .loop in
+    let size = at-binding-names .binding-names .kept .1 .1 .0 in
+    (omega (arith, length-set (l .bodies) (l .j) (at-binding-names .binding-names .result .end)), size ∙ l .inv .1, length-set (l .bodies) (l .j) _ ∙ l .inv .2, λ bs b. found-step (l .inv .3 bs b) (b .valid .1) (omega (arith, b .count)) (start .pre .0 .0) (l .inv .1 ∙ start .pre .0 .1) (at-binding-names .binding-names .ensures) (omega arith) (c .past-record .ensures))
 
 same-length : tie.Need-same-length Inv-loop μ-loop
 same-length c = c .before .loop .inv .1
@@ -61,9 +71,12 @@ same-length-2 : tie.Need-same-length-2 Inv-loop μ-loop
 same-length-2 c = c .before .loop .inv .2
 
 returns : tie.Need-returns Inv-loop μ-loop
-returns c = λ bs b.
-    let start = c .before .before .before .before .before in
-    let l = c .before .loop in
+returns c =
+    let at-loop = c .before in
+    let back = at-loop .before .before .before in
+    let start = back .before in
+    λ bs b.
+    let l = at-loop .loop in
     let f = l .inv .3 bs b in
     found-all f (b .valid .1) (omega (arith, b .count)) (omega (arith, f .rest .fits, start .pre .0 .0)) (l .inv .1 ∙ start .pre .0 .1)
 

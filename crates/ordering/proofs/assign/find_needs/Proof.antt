@@ -26,13 +26,19 @@ mul-starts : tie.Need-mul-starts Inv-loop μ-loop
 mul-starts c = search needs
 
 slice-write-starts : tie.Need-slice-write-starts Inv-loop μ-loop
-slice-write-starts c = omega (arith, c .before .loop .inv .2, c .before .before .before .before .before .before .before .pre .0 .1)
+slice-write-starts c =
+    let at-loop = c .before in
+    let back = at-loop .before .before .before in
+    let at-start = back .before .before .before in
+    omega (arith, at-loop .loop .inv .2, at-start .pre .0 .1)
 
 sub-body-needs : tie.Need-sub-body-needs Inv-loop μ-loop
 sub-body-needs c =
-    let start = c .before .before .before .before .before .before .before .before in
+    let at-loop = c .before .before in
+    let back = at-loop .before .before .before in
+    let start = back .before .before .before in
     let w = start .pre .1 in
-    omega (arith, w .1 .bodies-at .there (c .before .before .loop .j) (omega (arith, w .1 .size)) .fits)
+    omega (arith, w .1 .bodies-at .there (at-loop .loop .j) (omega (arith, w .1 .size)) .fits)
 
 part-body-needs-start : tie.Need-part-body-needs-start Inv-loop μ-loop
 part-body-needs-start c = sub-body-needs c
@@ -42,17 +48,24 @@ part-body-needs-end c = search needs
 
 body-needs-requires : tie.Need-body-needs-requires Inv-loop μ-loop
 body-needs-requires c κs =
-    let start = c .before .before .before .before .before .before .before .before .before .before in
-    let l = c .before .before .before .before .loop in
+    let back = c .before .before .before in
+    let at-loop = back .before in
+    let back-2 = at-loop .before .before .before in
+    let start = back-2 .before .before .before in
+    let l = at-loop .loop in
     let w = start .pre .1 in
     let f = l .inv .3 (w .0) (w .1) in
     (provisions-given _ _ (w .0) (w .1 .provisions) (omega (arith, w .1 .size, start .pre .0 .0)), omega (arith, f .there .fits, f .count))
 
 loop-again : tie.Need-loop-again Inv-loop μ-loop
 loop-again c =
-    let start = c .before .before .before .before .before .before .before .before .before .before .before .before .before in
-    let l = c .before .before .before .before .before .before .before .loop in
-    let g = c .before .before .body-needs in (
+    let at-body-needs = c .before .before in
+    let back = at-body-needs .before .before .before in
+    let at-loop = back .before .before in
+    let back-2 = at-loop .before .before .before in
+    let start = back-2 .before .before .before in
+    let l = at-loop .loop in
+    let g = at-body-needs .body-needs in (
       omega arith,
       g .kept .1 .1 .1 .0 ∙ l .inv .1,
       length-set (l .starts) (l .j) (l .n) ∙ l .inv .2,
@@ -67,7 +80,11 @@ mul-starts-2 : tie.Need-mul-starts-2 Inv-loop μ-loop
 mul-starts-2 c = search needs
 
 slice-write-starts-2 : tie.Need-slice-write-starts-2 Inv-loop μ-loop
-slice-write-starts-2 c = omega (arith, c .before .loop .inv .2, c .before .before .before .before .before .before .before .pre .0 .1)
+slice-write-starts-2 c =
+    let at-loop = c .before in
+    let back = at-loop .before .before .before in
+    let at-start = back .before .before .before in
+    omega (arith, at-loop .loop .inv .2, at-start .pre .0 .1)
 
 same-length : tie.Need-same-length Inv-loop μ-loop
 same-length c = c .before .loop .inv .1
@@ -77,8 +94,10 @@ same-length-2 c = length-set (c .before .loop .starts) (c .before .loop .j) (c .
 
 returns : tie.Need-returns Inv-loop μ-loop
 returns c =
-    let start = c .before .before .before .before .before .before .before in
-    let l = c .before .loop in
+    let at-loop = c .before in
+    let back = at-loop .before .before .before in
+    let start = back .before .before .before in
+    let l = at-loop .loop in
     let room : l .j < length (l .starts) = omega (arith, l .inv .2, start .pre .0 .1) in
     let w = start .pre .1 in (
       subst (λ (k : ℕ). Starts k (l .needs) (set (l .starts) (l .j) (l .n))) (w .1 .size)

@@ -8,7 +8,10 @@ use Rattle.ordering.proofs.assign.toposort_assign_bindings.Statement.{s
 use Rattle.ordering.proofs.assign.toposort_assign_bindings.Tie as tie
 
 array-borrow-prefix-bodies : tie.Need-array-borrow-prefix-bodies
-array-borrow-prefix-bodies c = let t = c .before .before .before .before .pre .1 in let-bound (c .before .before .let-view .ensures) (t .6) .1
+array-borrow-prefix-bodies c =
+    let at-let-view = c .before .before in
+    let at-start = at-let-view .before .before in
+    let t = at-start .pre .1 in let-bound (at-let-view .let-view .ensures) (t .6) .1
 
 slice-aggregate-order-bindings-2 : tie.Need-slice-aggregate-order-bindings-2
 slice-aggregate-order-bindings-2 c = sym (length-take-le _ _ (array-borrow-prefix-bodies (c .before)))
@@ -21,19 +24,28 @@ slice-aggregate-order-bindings-5 c = sym (length-take-le _ _ (array-borrow-prefi
 
 order-bindings-requires : tie.Need-order-bindings-requires
 order-bindings-requires c κs =
-    let start = c .before .before .before .before .before .before .before .before in
-    let w = let-bound (c .before .before .before .before .before .before .let-view .ensures) (start .pre .1 .6) in
-    let size = length-take-le _ _ (array-borrow-prefix-row (c .before)) in
-    let bodies = length-take-le _ _ (array-borrow-prefix-row (c .before)) in (
+    let there = c .before in
+    let back = there .before .before .before in
+    let at-let-view = back .before .before in
+    let start = at-let-view .before .before in
+    let w = let-bound (at-let-view .let-view .ensures) (start .pre .1 .6) in
+    let size = length-take-le _ _ (array-borrow-prefix-row there) in
+    let bodies = length-take-le _ _ (array-borrow-prefix-row there) in (
       (start .pre .0, refl, refl),
       ((bodies ∙ sym size, omega (arith, size, w .1), omega (arith, size, w .1)), (_, bound-of _ (sym size) (w .0))),
     )
 
 returns : tie.Need-returns
-returns c = λ k l w h bs b t.
-    let x = let-bound (c .before .before .before .before .before .before .before .before .before .before .before .before .let-view .ensures) t in
-    let size = length-take-le _ _ (array-borrow-prefix-row (c .before .before .before .before .before .before .before)) in
-    let g = c .before .before .before .before .before .order-bindings in
+returns c =
+    let back = c .before .before .before in
+    let at-order-bindings = back .before .before in
+    let there = at-order-bindings .before .before in
+    let back-2 = there .before .before .before in
+    let at-let-view = back-2 .before .before in
+    λ k l w h bs b t.
+    let x = let-bound (at-let-view .let-view .ensures) t in
+    let size = length-take-le _ _ (array-borrow-prefix-row there) in
+    let g = at-order-bindings .order-bindings in
     let same = g .kept .1 .1 .1 .1 .1 .1 .0 ∙ size in
     ordered-in _ _ (x .0) same refl (x .1) (g .ensures .0) (g .ensures .1 _ (bound-of _ (sym size) (x .0)))
 

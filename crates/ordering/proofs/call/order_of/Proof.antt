@@ -13,7 +13,11 @@ returns c = λ k l w h bs b t.
     c .refused .ensures _ ∙ rw (c .before .placeless .ensures) (sym (order-short _ _ k l w h bs b (omega (arith, let-count (seen .before .let-view .ensures) t))))
 
 number-requires : tie.Need-number-requires
-number-requires c κs = (omega arith, loc-fits (c .before .before .before .before .before .let-view .ensures) (c .before .before .before .before .before .before .before .before .pre .1 .6))
+number-requires c κs =
+    let back = c .before .before .before in
+    let at-let-view = back .before .before in
+    let at-start = at-let-view .before .before .before in
+    (omega arith, loc-fits (at-let-view .let-view .ensures) (at-start .pre .1 .6))
 
 stuck-requires : tie.Need-stuck-requires
 stuck-requires c κs =
@@ -26,9 +30,12 @@ stuck-requires c κs =
 
 ordered-requires : tie.Need-ordered-requires
 ordered-requires c κs =
-    let t = c .before .before .before .before .before .before .before .before .before .pre .1 in
-    let o = c .before .before .before .toposort-assign-bindings .ensures _ _ _ _ _ _ (t .6) in
-    (o .few, o .row, omega (arith, o .count, let-count (c .before .before .before .before .before .before .let-view .ensures) (t .6)))
+    let at-toposort-assign-bindings = c .before .before .before in
+    let at-let-view = at-toposort-assign-bindings .before .before .before in
+    let at-start = at-let-view .before .before .before in
+    let t = at-start .pre .1 in
+    let o = at-toposort-assign-bindings .toposort-assign-bindings .ensures _ _ _ _ _ _ (t .6) in
+    (o .few, o .row, omega (arith, o .count, let-count (at-let-view .let-view .ensures) (t .6)))
 
 returns-2 : tie.Need-returns-2
 returns-2 c = λ k l w h bs b t.
@@ -41,8 +48,13 @@ returns-2 c = λ k l w h bs b t.
     (lent .before .place-at .ensures ∙ ap place-at (numbered .number .ensures .0)) (c .before .before .stuck .ensures)
 
 returns-3 : tie.Need-returns-3
-returns-3 c = λ k l w h bs b t.
-    answer-found (c .before .before .before .before .before .before .before .before .before .let-view .ensures) t _ _ (c .before .before .before .before .before .before .toposort-assign-bindings .ensures k l w h bs b t) (omega arith) (c .before .before .before .before .if2 .left) (c .before .before .ordered .ensures)
+returns-3 c =
+    let at-ordered = c .before .before in
+    let at-if2 = at-ordered .before .before in
+    let at-toposort-assign-bindings = at-if2 .before .before in
+    let at-let-view = at-toposort-assign-bindings .before .before .before in
+    λ k l w h bs b t.
+    answer-found (at-let-view .let-view .ensures) t _ _ (at-toposort-assign-bindings .toposort-assign-bindings .ensures k l w h bs b t) (omega arith) (at-if2 .if2 .left) (at-ordered .ordered .ensures)
 
 pub order-of-spec : {M : Type 1} → statement M
 order-of-spec =

@@ -149,52 +149,127 @@ abbrev times-calls : ℕ → times-lts.Claims
 times-calls t = (child-below t, child.Post)
 
 binding-needs-child-requires : (t : ℕ) → binding-needs-lts.Need-child-requires (binding-needs-calls t) (binding-needs-at t) binding-needs.Post
-binding-needs-child-requires t c κs = (omega arith, (c .before .before .before .before .before .before .before .before .before .before .before .pre .1 .0, omega arith, omega arith))
+binding-needs-child-requires t c κs =
+    let back = c .before .before .before in
+    let back-2 = back .before .before .before in
+    let back-3 = back-2 .before .before .before in
+    let at-start = back-3 .before .before in
+    (omega arith, (at-start .pre .1 .0, omega arith, omega arith))
 
 binding-needs-returns : (t : ℕ) → binding-needs-lts.Need-returns (binding-needs-calls t) (binding-needs-at t) binding-needs.Post
-binding-needs-returns t c = binding-reaches (c .before .before .before .before .before .before .before .before .before .past-head .ensures) (c .before .before .before .before .before .before .before .before .past-bytes .ensures .past) (c .before .before .before .before .before .before .pattern-needs .ensures) (c .before .before .child .ensures) (omega arith)
+binding-needs-returns t c =
+    let at-child = c .before .before in
+    let back = at-child .before .before .before in
+    let at-pattern-needs = back .before in
+    let at-past-bytes = at-pattern-needs .before .before in
+    let at-past-head = at-past-bytes .before in
+    binding-reaches (at-past-head .past-head .ensures) (at-past-bytes .past-bytes .ensures .past) (at-pattern-needs .pattern-needs .ensures) (at-child .child .ensures) (omega arith)
 
 body-needs-returns : (t : ℕ) → body-needs-lts.Need-returns (body-needs-calls t) (body-needs-at t) body-needs.Post
-body-needs-returns t c = body-lists (c .before .before .before .before .before .body-mark .ensures) (c .before .before .before .before .match .keys1) (c .before .before .let-needs .ensures)
+body-needs-returns t c =
+    let at-let-needs = c .before .before in
+    let at-match = at-let-needs .before .before in
+    let at-body-mark = at-match .before in
+    body-lists (at-body-mark .body-mark .ensures) (at-match .match .keys1) (at-let-needs .let-needs .ensures)
 
 body-needs-returns-2 : (t : ℕ) → body-needs-lts.Need-returns-2 (body-needs-calls t) (body-needs-at t) body-needs.Post
 unfolding ascii
-body-needs-returns-2 t c = body-lists (c .before .before .before .before .before .before .before .before .before .before .before .body-mark .ensures) (c .before .before .before .before .before .before .before .before .before .before .match .keys2) (quote-reaches (c .before .before .before .before .past-bytes .ensures .past) (c .before .before .before .before .before .before .before .word .ensures) (c .before .before .child-sexp .ensures) (omega arith))
+body-needs-returns-2 t c =
+    let at-child-sexp = c .before .before in
+    let at-past-bytes = at-child-sexp .before .before in
+    let at-word = at-past-bytes .before .before .before in
+    let at-match = at-word .before .before .before in
+    let at-body-mark = at-match .before in
+    body-lists (at-body-mark .body-mark .ensures) (at-match .match .keys2) (quote-reaches (at-past-bytes .past-bytes .ensures .past) (at-word .word .ensures) (at-child-sexp .child-sexp .ensures) (omega arith))
 
 body-needs-returns-3 : (t : ℕ) → body-needs-lts.Need-returns-3 (body-needs-calls t) (body-needs-at t) body-needs.Post
-body-needs-returns-3 t c = body-lists (c .before .before .before .before .before .before .body-mark .ensures) (c .before .before .before .before .before .match .keys3) (value-reaches (c .before .before .before .before .past-bytes2 .ensures .past) (c .before .before .child-sexp2 .ensures))
+body-needs-returns-3 t c =
+    let at-child-sexp2 = c .before .before in
+    let at-past-bytes2 = at-child-sexp2 .before .before in
+    let at-match = at-past-bytes2 .before in
+    let at-body-mark = at-match .before in
+    body-lists (at-body-mark .body-mark .ensures) (at-match .match .keys3) (value-reaches (at-past-bytes2 .past-bytes2 .ensures .past) (at-child-sexp2 .child-sexp2 .ensures))
 
 body-needs-returns-4 : (t : ℕ) → body-needs-lts.Need-returns-4 (body-needs-calls t) (body-needs-at t) body-needs.Post
-body-needs-returns-4 t c = body-lists (c .before .before .before .before .before .body-mark .ensures) (c .before .before .before .before .match .keys4) (c .before .before .call-needs .ensures)
+body-needs-returns-4 t c =
+    let at-call-needs = c .before .before in
+    let at-match = at-call-needs .before .before in
+    let at-body-mark = at-match .before in
+    body-lists (at-body-mark .body-mark .ensures) (at-match .match .keys4) (at-call-needs .call-needs .ensures)
 
 body-needs-returns-5 : (t : ℕ) → body-needs-lts.Need-returns-5 (body-needs-calls t) (body-needs-at t) body-needs.Post
-body-needs-returns-5 t c = body-lists (c .before .before .before .before .before .body-mark .ensures) (c .before .before .before .before .match .keys5) (c .before .before .lambda-needs .ensures)
+body-needs-returns-5 t c =
+    let at-lambda-needs = c .before .before in
+    let at-match = at-lambda-needs .before .before in
+    let at-body-mark = at-match .before in
+    body-lists (at-body-mark .body-mark .ensures) (at-match .match .keys5) (at-lambda-needs .lambda-needs .ensures)
 
 body-needs-returns-6 : (t : ℕ) → body-needs-lts.Need-returns-6 (body-needs-calls t) (body-needs-at t) body-needs.Post
 body-needs-returns-6 t c = skip-lists (c .before .before .body-mark .ensures) (c .before .match .rest) (c .skip .ensures) (omega arith)
 
 call-needs-returns : (t : ℕ) → call-needs-lts.Need-returns (call-needs-calls t) (call-needs-at t) call-needs.Post
-call-needs-returns t c = call-reaches (c .before .before .before .before .before .before .before .call-view .ensures) (c .before .before .before .before .before .times .ensures) (c .before .before .tagged-view .ensures) (c .if1 .taken)
+call-needs-returns t c =
+    let at-tagged-view = c .before .before in
+    let at-times = at-tagged-view .before .before .before in
+    let at-call-view = at-times .before .before in
+    call-reaches (at-call-view .call-view .ensures) (at-times .times .ensures) (at-tagged-view .tagged-view .ensures) (c .if1 .taken)
 
 call-needs-child-requires : (t : ℕ) → call-needs-lts.Need-child-requires (call-needs-calls t) (call-needs-at t) call-needs.Post
-call-needs-child-requires t c κs = (omega arith, (c .before .before .before .before .before .before .before .before .before .before .before .before .before .before .before .before .before .before .pre .1 .0, omega arith, omega arith))
+call-needs-child-requires t c κs =
+    let back = c .before .before .before in
+    let back-2 = back .before .before .before in
+    let back-3 = back-2 .before .before .before in
+    let back-4 = back-3 .before .before .before in
+    let back-5 = back-4 .before .before .before in
+    let at-start = back-5 .before .before .before in
+    (omega arith, (at-start .pre .1 .0, omega arith, omega arith))
 
 call-needs-returns-2 : (t : ℕ) → call-needs-lts.Need-returns-2 (call-needs-calls t) (call-needs-at t) call-needs.Post
 unfolding ascii
-call-needs-returns-2 t c = tail-reaches (c .before .before .before .before .before .before .before .before .before .before .before .before .before .before .before .before .call-view .ensures) (c .before .before .before .before .before .before .before .before .before .before .before .before .before .before .times .ensures) (c .before .before .before .before .before .before .before .before .before .before .before .tagged-view .ensures) (c .before .before .before .before .before .before .before .before .before .if1 .left) (c .before .before .before .before .before .before .word .ensures) (c .before .before .child .ensures) (omega arith) (omega arith)
+call-needs-returns-2 t c =
+    let at-child = c .before .before in
+    let back = at-child .before .before .before in
+    let at-word = back .before in
+    let at-if1 = at-word .before .before .before in
+    let at-tagged-view = at-if1 .before .before in
+    let at-times = at-tagged-view .before .before .before in
+    let at-call-view = at-times .before .before in
+    tail-reaches (at-call-view .call-view .ensures) (at-times .times .ensures) (at-tagged-view .tagged-view .ensures) (at-if1 .if1 .left) (at-word .word .ensures) (at-child .child .ensures) (omega arith) (omega arith)
 
 child-returns : (t : ℕ) → child-lts.Need-returns (child-calls t) (child-at t) child.Post
 child-returns t c = reaches-none (c .if1 .taken) (omega arith)
 
 child-returns-2 : (t : ℕ) → child-lts.Need-returns-2 (child-calls t) (child-at t) child.Post
-child-returns-2 t c = reaches-part (c .before .before .before .before .before .before .before .before .before .before .before .pre .1 .1) (c .before .before .before .member-needs .ensures)
+child-returns-2 t c =
+    let at-member-needs = c .before .before .before in
+    let back = at-member-needs .before .before .before in
+    let back-2 = back .before .before .before in
+    let at-start = back-2 .before .before in
+    reaches-part (at-start .pre .1 .1) (at-member-needs .member-needs .ensures)
 
 lambda-needs-child-requires : (t : ℕ) → lambda-needs-lts.Need-child-requires (lambda-needs-calls t) (lambda-needs-at t) lambda-needs.Post
-lambda-needs-child-requires t c κs = (omega arith, (c .before .before .before .before .before .before .before .before .before .before .before .before .before .before .before .before .before .before .before .pre .1 .0, omega arith, omega arith))
+lambda-needs-child-requires t c κs =
+    let back = c .before .before .before in
+    let back-2 = back .before .before .before in
+    let back-3 = back-2 .before .before .before in
+    let back-4 = back-3 .before .before .before in
+    let back-5 = back-4 .before .before .before in
+    let back-6 = back-5 .before .before .before in
+    let at-start = back-6 .before in
+    (omega arith, (at-start .pre .1 .0, omega arith, omega arith))
 
 lambda-needs-returns : (t : ℕ) → lambda-needs-lts.Need-returns (lambda-needs-calls t) (lambda-needs-at t) lambda-needs.Post
 unfolding ascii
-lambda-needs-returns t c = lambda-reaches (c .before .before .before .before .before .before .before .before .before .before .before .before .before .before .before .before .before .lambda-view .ensures) (c .before .before .before .before .before .before .before .before .before .before .before .before .before .before .word .ensures) (c .before .before .before .before .before .before .before .before .before .before .capture-needs .ensures .1) (c .before .before .before .before .before .before .child-sexp .ensures) (c .before .before .child .ensures) (omega arith) (omega arith) (omega arith)
+lambda-needs-returns t c =
+    let at-child = c .before .before in
+    let back = at-child .before .before .before in
+    let at-child-sexp = back .before in
+    let back-2 = at-child-sexp .before .before .before in
+    let at-capture-needs = back-2 .before in
+    let back-3 = at-capture-needs .before .before .before in
+    let at-word = back-3 .before in
+    let at-lambda-view = at-word .before .before .before in
+    lambda-reaches (at-lambda-view .lambda-view .ensures) (at-word .word .ensures) (at-capture-needs .capture-needs .ensures .1) (at-child-sexp .child-sexp .ensures) (at-child .child .ensures) (omega arith) (omega arith) (omega arith)
 
 let-needs-times-requires : (t : ℕ) → let-needs-lts.Need-times-requires (let-needs-calls t) (let-needs-at t) let-needs.Post
 let-needs-times-requires t c κs = (omega arith, (c .before .before .before .before .before .before .before .before .before .before .pre .1 .0, c .before .before .before .before .before .let-view .ensures .within, omega arith))
@@ -206,10 +281,16 @@ let-needs-returns : (t : ℕ) → let-needs-lts.Need-returns (let-needs-calls t)
 let-needs-returns t c = let-reaches (c .before .before .before .before .before .before .before .before .before .before .before .before .let-view .ensures) (c .before .before .before .before .before .before .before .before .before .before .let-word .ensures) (c .before .before .before .before .before .before .times .ensures) (c .before .before .child .ensures) (omega arith) (omega arith)
 
 member-needs-returns : (t : ℕ) → member-needs-lts.Need-returns (member-needs-calls t) (member-needs-at t) member-needs.Post
-member-needs-returns t c = rw (c .before .before .before .before .if1 .taken) (c .before .before .binding-needs .ensures)
+member-needs-returns t c =
+    let at-binding-needs = c .before .before in
+    let at-if1 = at-binding-needs .before .before in
+    rw (at-if1 .if1 .taken) (at-binding-needs .binding-needs .ensures)
 
 member-needs-returns-2 : (t : ℕ) → member-needs-lts.Need-returns-2 (member-needs-calls t) (member-needs-at t) member-needs.Post
-member-needs-returns-2 t c = rw (c .before .before .before .before .if1 .left) (lists-reaches (c .before .before .body-needs .ensures))
+member-needs-returns-2 t c =
+    let at-body-needs = c .before .before in
+    let at-if1 = at-body-needs .before .before in
+    rw (at-if1 .if1 .left) (lists-reaches (at-body-needs .body-needs .ensures))
 
 abbrev times-Inv-loop : times-lts.InvT-loop
 times-Inv-loop a given s binding count needs₀ from i₀ needs r i = (r .end ≤ length s) × (r .count ≤ length needs₀) × (length needs ≡ length needs₀) × ListsSoFar (member-part binding) (member-words binding) a given s (from .end) count needs₀ (from .count) i needs r
@@ -221,7 +302,10 @@ times-loop-holds : (t : ℕ) → times-lts.Need-loop-holds (times-calls t) (time
 times-loop-holds t c = (omega arith, omega arith, refl, goes-first (omega arith))
 
 times-loop-again : (t : ℕ) → times-lts.Need-loop-again (times-calls t) (times-at t) times.Post times-Inv-loop times-μ-loop
-times-loop-again t c = (omega arith, omega arith, omega arith, goes-more (omega arith) (c .before .before .child .ensures) (c .before .before .before .before .before .loop .inv .2) (c .before .before .before .before .before .loop .inv .3))
+times-loop-again t c =
+    let at-child = c .before .before in
+    let at-loop = at-child .before .before .before in
+    (omega arith, omega arith, omega arith, goes-more (omega arith) (at-child .child .ensures) (at-loop .loop .inv .2) (at-loop .loop .inv .3))
 
 times-returns : (t : ℕ) → times-lts.Need-returns (times-calls t) (times-at t) times.Post times-Inv-loop times-μ-loop
 times-returns t c = goes-end (omega arith) (c .before .loop .inv .0) (c .before .loop .inv .1) (c .before .loop .inv .3)

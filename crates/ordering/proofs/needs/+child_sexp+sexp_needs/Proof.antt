@@ -47,7 +47,12 @@ abbrev calls : ℕ → lts.Claims
 calls t = (sexp-view-reads.Asked, sexp-view-reads.Learnt, child-sexp-below t, child-sexp.Post, word-reads.Asked, word-reads.Learnt)
 
 child-sexp-returns : (t : ℕ) → child-sexp-lts.Need-returns (child-sexp-calls t) (child-sexp-at t) child-sexp.Post
-child-sexp-returns t c = lists-part (c .before .before .before .before .before .before .before .before .before .before .pre .1 .1) (c .before .before .before .sexp-needs .ensures)
+child-sexp-returns t c =
+    let at-sexp-needs = c .before .before .before in
+    let back = at-sexp-needs .before .before .before in
+    let back-2 = back .before .before .before in
+    let at-start = back-2 .before in
+    lists-part (at-start .pre .1 .1) (at-sexp-needs .sexp-needs .ensures)
 
 module _ (t : ℕ) where
   -- the places that are spoken of
@@ -74,7 +79,10 @@ module _ (t : ℕ) where
   pair c = c .before .before .before
 
   abbrev headed : lts.After-child-sexp2 (calls t) (at t) sexp-needs.Post → Headed
-  headed c = c .before .before .before .before
+  headed c =
+      let back = c .before .before .before in
+      let there = back .before in
+      there
 
   abbrev bytes : Viewed → Bytes
   bytes c = start c .args .s .now

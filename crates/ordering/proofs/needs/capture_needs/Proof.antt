@@ -15,7 +15,13 @@ returns c = (omega arith, λ t w k. rw (captured-none t (sym (c .before .truthy 
 
 returns-2 : tie.Need-returns-2
 unfolding ascii
-returns-2 c = (omega arith, λ t w k. rw (captured-some t (sym (c .before .before .before .before .before .before .before .before .before .before .truthy .ensures t w (into k)) ∙ not-false _ (c .before .before .before .before .before .before .before .before .before .if1 .left))) (names-then (omega arith) (c .before .before .before .before .before .before .word .ensures) (c .before .before .child-sexp .ensures .lists t w k)))
+returns-2 c =
+    let at-child-sexp = c .before .before in
+    let back = at-child-sexp .before .before .before in
+    let at-word = back .before in
+    let at-if1 = at-word .before .before .before in
+    let at-truthy = at-if1 .before in
+    (omega arith, λ t w k. rw (captured-some t (sym (at-truthy .truthy .ensures t w (into k)) ∙ not-false _ (at-if1 .if1 .left))) (names-then (omega arith) (at-word .word .ensures) (at-child-sexp .child-sexp .ensures .lists t w k)))
 
 pub capture-needs-spec : {M : Type 1} → statement M
 capture-needs-spec = tie.close (tie.spec (λ c. search needs) (λ c. search needs) (λ c. search needs) (λ c κs. search needs) returns (λ c. search needs) (λ c κs. search needs) (λ c κs. search needs) (λ c. search needs) returns-2)

@@ -17,15 +17,24 @@ later-kind (suc (suc k)) h = refl
 
 returns : tie.Need-returns
 unfolding let-word kind-of ascii
-returns c = rw (c .before .before .before .before .before .match .keys1) (c .before .before .word .ensures)
+returns c =
+    let at-word = c .before .before in
+    let at-match = at-word .before .before .before in
+    rw (at-match .match .keys1) (at-word .word .ensures)
 
 returns-2 : tie.Need-returns-2
 unfolding let-word kind-of ascii
-returns-2 c = rw (c .before .before .before .before .before .match .keys2) (c .before .before .word2 .ensures)
+returns-2 c =
+    let at-word2 = c .before .before in
+    let at-match = at-word2 .before .before .before in
+    rw (at-match .match .keys2) (at-word2 .word2 .ensures)
 
 returns-3 : tie.Need-returns-3
 unfolding let-word kind-of ascii
-returns-3 c = rw (later-kind _ (c .before .before .before .before .before .match .rest)) (c .before .before .word3 .ensures)
+returns-3 c =
+    let at-word3 = c .before .before in
+    let at-match = at-word3 .before .before .before in
+    rw (later-kind _ (at-match .match .rest)) (at-word3 .word3 .ensures)
 
 pub let-word-spec : {M : Type 1} → statement M
 let-word-spec = tie.close (tie.spec (λ c. search needs) (λ c κs. search needs) (λ c. search needs) (λ c κs. search needs) (λ c. search needs) (λ c κs. search needs) (λ c. search needs) returns (λ c. search needs) returns-2 (λ c. search needs) returns-3)

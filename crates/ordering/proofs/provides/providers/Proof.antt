@@ -18,28 +18,56 @@ loop-holds : tie.Need-loop-holds Inv-loop μ-loop
 loop-holds c = from-end _ _ _
 
 mul-bits : tie.Need-mul-bits Inv-loop μ-loop
-mul-bits c = omega (arith, zero-fits (c .before .before .before .loop .inv) (search needs) (c .if1 .taken) (c .before .before .before .before .before .before .before .pre .few))
+mul-bits c =
+    let at-loop = c .before .before .before in
+    let back = at-loop .before .before .before in
+    let at-start = back .before in
+    omega (arith, zero-fits (at-loop .loop .inv) (search needs) (c .if1 .taken) (at-start .pre .few))
 
 add-bits : tie.Need-add-bits Inv-loop μ-loop
-add-bits c = omega (arith, zero-fits (c .before .before .before .loop .inv) (search needs) (c .if1 .taken) (c .before .before .before .before .before .before .before .pre .few))
+add-bits c =
+    let at-loop = c .before .before .before in
+    let back = at-loop .before .before .before in
+    let at-start = back .before in
+    omega (arith, zero-fits (at-loop .loop .inv) (search needs) (c .if1 .taken) (at-start .pre .few))
 
 loop-again : tie.Need-loop-again Inv-loop μ-loop
 loop-again c = from-zero (c .before .before .before .loop .inv) (search needs) (c .if1 .taken)
 
 sub-same : tie.Need-sub-same Inv-loop μ-loop
-sub-same c = omega (arith, c .before .before .before .before .before .before .before .pre .within (c .before .before .before .loop .k - 1) (search needs) .0)
+sub-same c =
+    let at-loop = c .before .before .before in
+    let back = at-loop .before .before .before in
+    let at-start = back .before in
+    omega (arith, at-start .pre .within (at-loop .loop .k - 1) (search needs) .0)
 
 part-same-start : tie.Need-part-same-start Inv-loop μ-loop
-part-same-start c = omega (arith, c .before .before .before .before .before .before .before .pre .within (c .before .before .before .loop .k - 1) (search needs) .0)
+part-same-start c =
+    let at-loop = c .before .before .before in
+    let back = at-loop .before .before .before in
+    let at-start = back .before in
+    omega (arith, at-start .pre .within (at-loop .loop .k - 1) (search needs) .0)
 
 part-same-end : tie.Need-part-same-end Inv-loop μ-loop
-part-same-end c = omega (arith, c .before .before .before .before .before .before .before .pre .within (c .before .before .before .loop .k - 1) (search needs) .1)
+part-same-end c =
+    let at-loop = c .before .before .before in
+    let back = at-loop .before .before .before in
+    let at-start = back .before in
+    omega (arith, at-start .pre .within (at-loop .loop .k - 1) (search needs) .1)
 
 loop-again-2 : tie.Need-loop-again-2 Inv-loop μ-loop
-loop-again-2 c = from-name (c .before .before .before .before .before .before .loop .inv) (search needs) (c .before .before .before .if1 .left) true (sym (c .if2 .taken) ∙ c .before .same .ensures)
+loop-again-2 c =
+    let at-same = c .before in
+    let at-if1 = at-same .before .before in
+    let at-loop = at-if1 .before .before .before in
+    from-name (at-loop .loop .inv) (search needs) (at-if1 .if1 .left) true (sym (c .if2 .taken) ∙ at-same .same .ensures)
 
 loop-again-3 : tie.Need-loop-again-3 Inv-loop μ-loop
-loop-again-3 c = from-name (c .before .before .before .before .before .before .loop .inv) (search needs) (c .before .before .before .if1 .left) false (sym (c .if2 .left) ∙ c .before .same .ensures)
+loop-again-3 c =
+    let at-same = c .before in
+    let at-if1 = at-same .before .before in
+    let at-loop = at-if1 .before .before .before in
+    from-name (at-loop .loop .inv) (search needs) (at-if1 .if1 .left) false (sym (c .if2 .left) ∙ at-same .same .ensures)
 
 returns : tie.Need-returns Inv-loop μ-loop
 returns c = from-start (c .before .loop .inv) (omega arith)

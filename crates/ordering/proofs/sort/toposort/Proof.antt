@@ -23,8 +23,11 @@ abbrev μ-loop : tie.MeasureT-loop
 
 loop-holds : tie.Need-loop-holds Inv-loop μ-loop
 loop-holds c =
-    let r = c .before .before .rising in
-    let n = length (c .before .before .before .before .before .before .before .args .row .now) in (
+    let at-rising = c .before .before in
+    let back = at-rising .before .before .before in
+    let at-start = back .before .before in
+    let r = at-rising .rising in
+    let n = length (at-start .args .row .now) in (
       refl,
       omega arith,
       omega arith,
@@ -36,22 +39,40 @@ loop-holds c =
 
 turn-requires : tie.Need-turn-requires Inv-loop μ-loop
 turn-requires c κs =
-    let l = c .before .before .before .before .loop in
-    let e : length (l .row) ≡ length (c .before .before .before .before .before .before .before .before .before .before .before .before .args .row .now) = omega arith in
-    ((rw e (c .before .before .before .before .before .before .before .before .before .before .before .before .pre), omega arith), l .inv .3)
+    let back = c .before .before .before in
+    let at-loop = back .before in
+    let back-2 = at-loop .before .before .before in
+    let back-3 = back-2 .before .before .before in
+    let at-start = back-3 .before .before in
+    let l = at-loop .loop in
+    let e : length (l .row) ≡ length (at-start .args .row .now) = omega arith in
+    ((rw e (at-start .pre), omega arith), l .inv .3)
 
 -- where the function and the turn of the loop begin
 abbrev entry : tie.After-slice-known3 Inv-loop μ-loop → tie.Start Inv-loop μ-loop
-entry c = c .before .before .before .before .before .before .before .before .before .before .before .before .before .before .before
+entry c =
+    let back = c .before .before .before in
+    let back-2 = back .before .before .before in
+    let back-3 = back-2 .before .before .before in
+    let back-4 = back-3 .before .before .before in
+    let there = back-4 .before .before .before in
+    there
 
 abbrev head : tie.After-slice-known3 Inv-loop μ-loop → tie.At-loop Inv-loop μ-loop
-head c = c .before .before .before .before .before .before .before
+head c =
+    let back = c .before .before .before in
+    let back-2 = back .before .before .before in
+    let there = back-2 .before in
+    there
 
 turned : (c : tie.After-slice-known3 Inv-loop μ-loop) (bs : List Item) → length bs ≡ length (entry c .args .row .now)
     → NeedsAt bs (entry c .args .needs .now) (entry c .args .starts .now)
     → turn bs (record { row = head c .loop .row; placed = head c .loop .placed })
     ≡ record { row = c .before .before .turn .last .1 .1 .0; placed = c .before .before .turn .result }
-turned c bs size at = c .before .before .turn .ensures .1 .1 bs (record { size = omega arith; at = at; marked = c .before .before .before .before .placed-bits .ensures })
+turned c bs size at =
+    let at-turn = c .before .before in
+    let at-placed-bits = at-turn .before .before in
+    at-turn .turn .ensures .1 .1 bs (record { size = omega arith; at = at; marked = at-placed-bits .placed-bits .ensures })
 
 returns : tie.Need-returns Inv-loop μ-loop
 returns c =

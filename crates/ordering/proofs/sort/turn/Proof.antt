@@ -34,24 +34,33 @@ row-index c = c .before .positions .inv .below (c .before .positions .p) (omega 
 
 loop-holds : tie.Need-loop-holds Inv-loop μ-loop Inv-positions μ-positions
 loop-holds c =
-    let w = c .before .before .before .before .positions in
+    let there = c .before .before .before in
+    let at-positions = there .before in
+    let at-start = at-positions .before in
+    let w = at-positions .positions in
     let i = getD (w .row) (w .p) 0 in
-    let s = c .before .before .before .before .before .pre .0 .0 in
-    let lt : i < length (w .row) = row-index (c .before .before .before) in
+    let s = at-start .pre .0 .0 in
+    let lt : i < length (w .row) = row-index there in
     (refl, lt, omega arith, s .within (i + 1) (omega arith), λ bs g. simp sub-self (none-seen bs _ i))
 
 positions-again : tie.Need-positions-again Inv-loop μ-loop Inv-positions μ-positions
 positions-again c =
-    let l = c .before .before .before .loop in
-    let w = c .before .before .before .before .before .before .before .before .positions in
+    let at-loop = c .before .before .before in
+    let back = at-loop .before .before .before in
+    let at-positions = back .before .before in
+    let l = at-loop .loop in
+    let w = at-positions .positions in
     rw (l .inv .0)
     (stays _ _ _ _ _ (w .inv) (omega arith)
     (λ bs g. l .inv .4 bs g ∙ not-met g (getD (w .row) (w .p) 0) (l .k) (omega (arith, g .size)) (omega arith) (omega arith) (c .if1 .taken)))
 
 loop-again : tie.Need-loop-again Inv-loop μ-loop Inv-positions μ-positions
 loop-again c =
-    let l = c .before .before .before .loop in
-    let w = c .before .before .before .before .before .before .before .before .positions in (
+    let at-loop = c .before .before .before in
+    let back = at-loop .before .before .before in
+    let at-positions = back .before .before in
+    let l = at-loop .loop in
+    let w = at-positions .positions in (
       l .inv .0,
       l .inv .1,
       omega arith,
@@ -61,8 +70,11 @@ loop-again c =
 
 positions-again-2 : tie.Need-positions-again-2 Inv-loop μ-loop Inv-positions μ-positions
 positions-again-2 c =
-    let l = c .before .before .loop in
-    let w = c .before .before .before .before .before .before .before .positions in
+    let at-loop = c .before .before in
+    let back = at-loop .before .before .before in
+    let at-positions = back .before .before in
+    let l = at-loop .loop in
+    let w = at-positions .positions in
     rw (l .inv .0)
     (places _ _ _ _ _ (w .inv) (omega arith)
     (λ bs g. l .inv .4 bs g ∙ all-met g (getD (w .row) (w .p) 0) (l .k) (omega (arith, g .size)) (omega arith) (omega arith)))

@@ -5,11 +5,16 @@ use Rattle.records.proofs.bodies.lambda_view.Statement.{statement}
 use Rattle.records.proofs.bodies.lambda_view.Tie as tie
 
 returns : tie.Need-returns
-returns c = sees-lambda
-    (c .before .before .before .before .past-head .ensures)
-    (c .before .before .before .past-keyword .ensures)
-    (c .before .before .past-sexp .ensures)
-    (c .before .past-record .ensures)
+returns c =
+    let at-past-record = c .before in
+    let at-past-sexp = at-past-record .before in
+    let at-past-keyword = at-past-sexp .before in
+    let at-past-head = at-past-keyword .before in
+    sees-lambda
+    (at-past-head .past-head .ensures)
+    (at-past-keyword .past-keyword .ensures)
+    (at-past-sexp .past-sexp .ensures)
+    (at-past-record .past-record .ensures)
     (c .past-sexp2 .ensures)
 
 pub lambda-view-spec : {M : Type 1} → statement M

@@ -158,7 +158,15 @@ binding-returns t c = record { within = omega arith; few = omega arith; counts =
 
 body-returns : (t : ℕ) → body-lts.Need-returns (body-calls t) (body-at t) body.Post
 unfolding BodyOf
-body-returns t c = body-counts (omega arith) (omega arith) (sym (c .before .before .before .before .before .before .match .keys1) ∙ c .before .before .before .before .before .before .before .before .body-mark .ensures) (let-told (c .before .before .before .before .before .past-bytes2 .ensures .past) (c .before .before .before .before .past-bytes3 .ensures .past) (c .before .before .before .past-keyword .ensures) (c .before .before .past-hint .ensures) (c .before .many .ensures) (c .child .ensures))
+body-returns t c =
+    let at-many = c .before in
+    let at-past-hint = at-many .before in
+    let at-past-keyword = at-past-hint .before in
+    let at-past-bytes3 = at-past-keyword .before in
+    let at-past-bytes2 = at-past-bytes3 .before in
+    let at-match = at-past-bytes2 .before in
+    let at-body-mark = at-match .before .before in
+    body-counts (omega arith) (omega arith) (sym (at-match .match .keys1) ∙ at-body-mark .body-mark .ensures) (let-told (at-past-bytes2 .past-bytes2 .ensures .past) (at-past-bytes3 .past-bytes3 .ensures .past) (at-past-keyword .past-keyword .ensures) (at-past-hint .past-hint .ensures) (at-many .many .ensures) (c .child .ensures))
 
 body-returns-2 : (t : ℕ) → body-lts.Need-returns-2 (body-calls t) (body-at t) body.Post
 unfolding BodyOf
@@ -170,7 +178,12 @@ body-returns-3 t c = body-counts (omega arith) (omega arith) (sym (c .before .ma
 
 body-returns-4 : (t : ℕ) → body-lts.Need-returns-4 (body-calls t) (body-at t) body.Post
 unfolding BodyOf
-body-returns-4 t c = body-counts (omega arith) (omega arith) (sym (c .before .before .match .keys4) ∙ c .before .before .before .before .body-mark .ensures) (call-told (c .before .before .before .past-bytes .ensures .past) (c .before .many2 .ensures) (c .tail .ensures))
+body-returns-4 t c =
+    let at-many2 = c .before in
+    let at-match = at-many2 .before in
+    let at-past-bytes = at-match .before in
+    let at-body-mark = at-past-bytes .before in
+    body-counts (omega arith) (omega arith) (sym (at-match .match .keys4) ∙ at-body-mark .body-mark .ensures) (call-told (at-past-bytes .past-bytes .ensures .past) (at-many2 .many2 .ensures) (c .tail .ensures))
 
 body-returns-5 : (t : ℕ) → body-lts.Need-returns-5 (body-calls t) (body-at t) body.Post
 unfolding BodyOf
@@ -178,14 +191,25 @@ body-returns-5 t c = body-counts (omega arith) (omega arith) (sym (c .before .ma
 
 body-returns-6 : (t : ℕ) → body-lts.Need-returns-6 (body-calls t) (body-at t) body.Post
 unfolding BodyOf
-body-returns-6 t c = body-counts (omega arith) (omega arith) (sym (c .before .before .before .before .before .match .keys6) ∙ c .before .before .before .before .before .before .before .body-mark .ensures) (lambda-told (c .before .before .before .before .before .before .past-bytes .ensures .past) (c .before .before .before .before .past-keyword2 .ensures) (c .before .before .before .child-sexp3 .ensures) (c .before .before .child3 .ensures) (c .before .child-sexp4 .ensures) (c .child4 .ensures))
+body-returns-6 t c =
+    let at-child-sexp4 = c .before in
+    let at-child3 = at-child-sexp4 .before in
+    let at-child-sexp3 = at-child3 .before in
+    let at-past-keyword2 = at-child-sexp3 .before in
+    let at-match = at-past-keyword2 .before in
+    let at-past-bytes = at-match .before in
+    let at-body-mark = at-past-bytes .before in
+    body-counts (omega arith) (omega arith) (sym (at-match .match .keys6) ∙ at-body-mark .body-mark .ensures) (lambda-told (at-past-bytes .past-bytes .ensures .past) (at-past-keyword2 .past-keyword2 .ensures) (at-child-sexp3 .child-sexp3 .ensures) (at-child3 .child3 .ensures) (at-child-sexp4 .child-sexp4 .ensures) (c .child4 .ensures))
 
 body-returns-7 : (t : ℕ) → body-lts.Need-returns-7 (body-calls t) (body-at t) body.Post
 unfolding BodyOf
 body-returns-7 t c = body-counts (omega arith) (omega arith) (no-body _ (c .before .before .body-mark .ensures) (c .match .rest)) tt
 
 child-returns : (t : ℕ) → child-lts.Need-returns (child-calls t) (child-at t) child.Post
-child-returns t c = child-adds (c .before .before .before .before .before .before .pre .1) (c .before .before .before .count-records .ensures)
+child-returns t c =
+    let at-count-records = c .before .before .before in
+    let at-start = at-count-records .before .before .before in
+    child-adds (at-start .pre .1) (at-count-records .count-records .ensures)
 
 count-records-returns : (t : ℕ) → count-records-lts.Need-returns (count-records-calls t) (count-records-at t) count-records.Post
 count-records-returns t c = too-few (family-long (c .before .before .args .family)) (c .if1 .taken)
@@ -203,23 +227,51 @@ count-records-returns-5 : (t : ℕ) → count-records-lts.Need-returns-5 (count-
 count-records-returns-5 t c = rw (c .before .enum-told4 .given .1) (c .form .ensures)
 
 form-returns : (t : ℕ) → form-lts.Need-returns (form-calls t) (form-at t) form.Post
-form-returns t c = record { within = omega arith; few = omega arith; counts = form-told (c .before .before .before .before .past-bytes .ensures .past) (c .before .before .before .past-raw .ensures) (c .before .before .child-sexp .ensures) (c .before .many .ensures) (c .child .ensures) }
+form-returns t c =
+    let at-many = c .before in
+    let at-child-sexp = at-many .before in
+    let at-past-raw = at-child-sexp .before in
+    let at-past-bytes = at-past-raw .before in
+    record { within = omega arith; few = omega arith; counts = form-told (at-past-bytes .past-bytes .ensures .past) (at-past-raw .past-raw .ensures) (at-child-sexp .child-sexp .ensures) (at-many .many .ensures) (c .child .ensures) }
 
 helper-returns : (t : ℕ) → helper-lts.Need-returns (helper-calls t) (helper-at t) helper.Post
 unfolding HelperOf
-helper-returns t c = helper-counts (omega arith) (omega arith) (sym (c .before .before .match .keys1) ∙ c .before .before .before .before .helper-mark .ensures) (constant-told (c .before .before .before .past-bytes .ensures .past) (c .before .named .ensures) (c .child .ensures))
+helper-returns t c =
+    let at-named = c .before in
+    let at-match = at-named .before in
+    let at-past-bytes = at-match .before in
+    let at-helper-mark = at-past-bytes .before in
+    helper-counts (omega arith) (omega arith) (sym (at-match .match .keys1) ∙ at-helper-mark .helper-mark .ensures) (constant-told (at-past-bytes .past-bytes .ensures .past) (at-named .named .ensures) (c .child .ensures))
 
 helper-returns-2 : (t : ℕ) → helper-lts.Need-returns-2 (helper-calls t) (helper-at t) helper.Post
 unfolding HelperOf
-helper-returns-2 t c = helper-counts (omega arith) (omega arith) (sym (c .before .before .before .match .keys2) ∙ c .before .before .before .before .before .helper-mark .ensures) (macro-told (c .before .before .before .before .past-bytes .ensures .past) (c .before .before .named2 .ensures) (c .before .child-sexp .ensures) (c .child2 .ensures))
+helper-returns-2 t c =
+    let at-child-sexp = c .before in
+    let at-named2 = at-child-sexp .before in
+    let at-match = at-named2 .before in
+    let at-past-bytes = at-match .before in
+    let at-helper-mark = at-past-bytes .before in
+    helper-counts (omega arith) (omega arith) (sym (at-match .match .keys2) ∙ at-helper-mark .helper-mark .ensures) (macro-told (at-past-bytes .past-bytes .ensures .past) (at-named2 .named2 .ensures) (at-child-sexp .child-sexp .ensures) (c .child2 .ensures))
 
 helper-returns-3 : (t : ℕ) → helper-lts.Need-returns-3 (helper-calls t) (helper-at t) helper.Post
 unfolding HelperOf
-helper-returns-3 t c = helper-counts (omega arith) (omega arith) (sym (c .before .before .before .before .match .keys3) ∙ c .before .before .before .before .before .before .helper-mark .ensures) (function-told (c .before .before .before .before .before .past-bytes .ensures .past) (c .before .before .before .past-bytes2 .ensures .past) (c .before .before .named3 .ensures) (c .before .child-sexp2 .ensures) (c .child3 .ensures))
+helper-returns-3 t c =
+    let at-child-sexp2 = c .before in
+    let at-named3 = at-child-sexp2 .before in
+    let at-past-bytes2 = at-named3 .before in
+    let at-match = at-past-bytes2 .before in
+    let at-past-bytes = at-match .before in
+    let at-helper-mark = at-past-bytes .before in
+    helper-counts (omega arith) (omega arith) (sym (at-match .match .keys3) ∙ at-helper-mark .helper-mark .ensures) (function-told (at-past-bytes .past-bytes .ensures .past) (at-past-bytes2 .past-bytes2 .ensures .past) (at-named3 .named3 .ensures) (at-child-sexp2 .child-sexp2 .ensures) (c .child3 .ensures))
 
 helper-returns-4 : (t : ℕ) → helper-lts.Need-returns-4 (helper-calls t) (helper-at t) helper.Post
 unfolding HelperOf
-helper-returns-4 t c = helper-counts (omega arith) (omega arith) (sym (c .before .before .match .keys4) ∙ c .before .before .before .before .helper-mark .ensures) (namespace-told (c .before .before .before .past-bytes .ensures .past) (c .before .named4 .ensures) (c .many .ensures))
+helper-returns-4 t c =
+    let at-named4 = c .before in
+    let at-match = at-named4 .before in
+    let at-past-bytes = at-match .before in
+    let at-helper-mark = at-past-bytes .before in
+    helper-counts (omega arith) (omega arith) (sym (at-match .match .keys4) ∙ at-helper-mark .helper-mark .ensures) (namespace-told (at-past-bytes .past-bytes .ensures .past) (at-named4 .named4 .ensures) (c .many .ensures))
 
 helper-returns-5 : (t : ℕ) → helper-lts.Need-returns-5 (helper-calls t) (helper-at t) helper.Post
 unfolding HelperOf
@@ -249,7 +301,11 @@ many-returns : (t : ℕ) → many-lts.Need-returns (many-calls t) (many-at t) ma
 many-returns t c = record { onward = c .before .loop .inv .1; within = c .before .loop .inv .2 .within; few = c .before .loop .inv .2 .few; adds = λ ts v a. rest-none (c .before .loop .inv .3 ts v a) (c .loop-test .left) }
 
 tail-returns : (t : ℕ) → tail-lts.Need-returns (tail-calls t) (tail-at t) tail.Post
-tail-returns t c = no-tail-adds (c .before .byte-at .ensures) (c .before .before .past-bytes .ensures .past) (c .before .before .before .before .pre .1) (c .if1 .taken)
+tail-returns t c =
+    let at-byte-at = c .before in
+    let at-past-bytes = at-byte-at .before in
+    let at-start = at-past-bytes .before .before in
+    no-tail-adds (at-byte-at .byte-at .ensures) (at-past-bytes .past-bytes .ensures .past) (at-start .pre .1) (c .if1 .taken)
 
 tail-returns-2 : (t : ℕ) → tail-lts.Need-returns-2 (tail-calls t) (tail-at t) tail.Post
 tail-returns-2 t c = tail-adds (c .before .before .byte-at .ensures) (c .before .before .before .past-bytes .ensures .past) (c .before .if1 .left) (c .child .ensures)

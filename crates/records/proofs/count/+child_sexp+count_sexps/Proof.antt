@@ -54,7 +54,10 @@ child-sexp-returns :
     (child-sexp-calls t)
     (child-sexp-at t)
     child-sexp.Post
-child-sexp-returns t c = child-adds (c .before .before .before .before .before .before .pre .1) (c .before .before .before .count-sexps .ensures)
+child-sexp-returns t c =
+    let at-count-sexps = c .before .before .before in
+    let at-start = at-count-sexps .before .before .before in
+    child-adds (at-start .pre .1) (at-count-sexps .count-sexps .ensures)
 
 module _ (t : ℕ) where
   -- where the view is an SC's

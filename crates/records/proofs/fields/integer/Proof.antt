@@ -7,23 +7,42 @@ use Rattle.records.proofs.fields.integer.Statement.{statement}
 use Rattle.records.proofs.fields.integer.Tie as tie
 
 returns : tie.Need-returns
-returns c = integer-stop (c .before .before .before .before .pre) (c .before .before .counted .ensures) (c .if1 .taken)
+returns c =
+    let at-counted = c .before .before in
+    let at-start = at-counted .before .before in
+    integer-stop (at-start .pre) (at-counted .counted .ensures) (c .if1 .taken)
 
 sub-shortest : tie.Need-sub-shortest
-sub-shortest c = integer-part (c .before .before .before .before .pre) (c .before .before .counted .ensures) (c .if1 .left)
+sub-shortest c =
+    let at-counted = c .before .before in
+    let at-start = at-counted .before .before in
+    integer-part (at-start .pre) (at-counted .counted .ensures) (c .if1 .left)
 
 part-shortest-start : tie.Need-part-shortest-start
-part-shortest-start c = omega (arith, integer-part (c .before .before .before .before .pre) (c .before .before .counted .ensures) (c .if1 .left), c .before .before .counted .ensures .within)
+part-shortest-start c =
+    let at-counted = c .before .before in
+    let at-start = at-counted .before .before in
+    omega (arith, integer-part (at-start .pre) (at-counted .counted .ensures) (c .if1 .left), at-counted .counted .ensures .within)
 
 returns-2 : tie.Need-returns-2
 returns-2 c =
-    integer-shortest (c .before .before .before .before .before .before .before .pre) (c .before .before .before .before .before .counted .ensures)
-    (c .before .before .before .if1 .left) (sym (c .before .shortest .ensures) ∙ c .if2 .taken)
+    let at-shortest = c .before in
+    let at-if1 = at-shortest .before .before in
+    let at-counted = at-if1 .before .before in
+    let at-start = at-counted .before .before in
+    integer-shortest (at-start .pre) (at-counted .counted .ensures)
+    (at-if1 .if1 .left) (sym (at-shortest .shortest .ensures) ∙ c .if2 .taken)
 
 returns-3 : tie.Need-returns-3
-returns-3 c = rw (c .refused .ensures)
-    (integer-longer (c .before .before .before .before .before .before .before .before .pre) (c .before .before .before .before .before .before .counted .ensures)
-    (c .before .before .before .before .if1 .left) (sym (c .before .before .shortest .ensures) ∙ c .before .if2 .left))
+returns-3 c =
+    let at-if2 = c .before in
+    let at-shortest = at-if2 .before in
+    let at-if1 = at-shortest .before .before in
+    let at-counted = at-if1 .before .before in
+    let at-start = at-counted .before .before in
+    rw (c .refused .ensures)
+    (integer-longer (at-start .pre) (at-counted .counted .ensures)
+    (at-if1 .if1 .left) (sym (at-shortest .shortest .ensures) ∙ at-if2 .if2 .left))
 
 pub integer-spec : {M : Type 1} → statement M
 integer-spec =

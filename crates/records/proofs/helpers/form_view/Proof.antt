@@ -5,11 +5,16 @@ use Rattle.records.proofs.helpers.form_view.Statement.{statement}
 use Rattle.records.proofs.helpers.form_view.Tie as tie
 
 returns : tie.Need-returns
-returns c = sees-form
-    (c .before .before .before .before .past-head .ensures)
-    (c .before .before .before .past-raw .ensures)
-    (c .before .before .past-sexp .ensures)
-    (c .before .byte-at .ensures)
+returns c =
+    let at-byte-at = c .before in
+    let at-past-sexp = at-byte-at .before in
+    let at-past-raw = at-past-sexp .before in
+    let at-past-head = at-past-raw .before in
+    sees-form
+    (at-past-head .past-head .ensures)
+    (at-past-raw .past-raw .ensures)
+    (at-past-sexp .past-sexp .ensures)
+    (at-byte-at .byte-at .ensures)
     (c .past-bytes .ensures .past)
 
 pub form-view-spec : {M : Type 1} → statement M

@@ -95,31 +95,80 @@ child-sexp-add-r t c = search needs
 child-sexp-returns-2 :
     (t : ℕ) →
     child-sexp-lts.Need-returns-2 (sexp-below t, sexp.Post) (child-sexp-at t) child-sexp.Post
-child-sexp-returns-2 t c = child-sexp-moves _ (c .before .before .before .before .before .before .args .c) _ (c .before .before .before .before .before .before .pre .1 .0) (c .before .before .before .if1 .left) (c .before .sexp .ensures)
+child-sexp-returns-2 t c =
+    let at-sexp = c .before in
+    let at-if1 = at-sexp .before .before in
+    let at-start = at-if1 .before .before .before in
+    child-sexp-moves _ (at-start .args .c) _ (at-start .pre .1 .0) (at-if1 .if1 .left) (at-sexp .sexp .ensures)
 
 pair-returns : (t : ℕ) → pair-lts.Need-returns (pair-calls t) (pair-at t) pair.Post
-pair-returns t c = pair-parts _ (c .before .before .before .before .pre .1 .0) (c .before .before .loc .ensures) (c .before .child-sexp .ensures) (c .child-sexp2 .ensures)
+pair-returns t c =
+    let at-child-sexp = c .before in
+    let at-loc = at-child-sexp .before in
+    let at-start = at-loc .before .before in
+    pair-parts _ (at-start .pre .1 .0) (at-loc .loc .ensures) (at-child-sexp .child-sexp .ensures) (c .child-sexp2 .ensures)
 
 sexp-returns : (t : ℕ) → sexp-lts.Need-returns (sexp-calls t) (sexp-at t) sexp.Post
-sexp-returns t c = rw (c .refused .ensures) (sexp-deep (c .before .before .before .before .before .before .pre .1 .0 .0) (c .before .before .before .before .bytes .ensures) _ (c .before .before .before .before .before .before .pre .1 .0 .1) (c .before .if1 .taken) (sym (c .before .before .match .keys2) ∙ c .before .before .before .sexp-mark .ensures))
+sexp-returns t c =
+    let at-if1 = c .before in
+    let at-match = at-if1 .before in
+    let at-sexp-mark = at-match .before in
+    let at-bytes = at-sexp-mark .before in
+    let at-start = at-bytes .before .before in
+    rw (c .refused .ensures) (sexp-deep (at-start .pre .1 .0 .0) (at-bytes .bytes .ensures) _ (at-start .pre .1 .0 .1) (at-if1 .if1 .taken) (sym (at-match .match .keys2) ∙ at-sexp-mark .sexp-mark .ensures))
 
 sexp-returns-2 : (t : ℕ) → sexp-lts.Need-returns-2 (sexp-calls t) (sexp-at t) sexp.Post
-sexp-returns-2 t c = sexp-nil (c .before .before .before .before .before .pre .1 .0 .0) (c .before .before .before .bytes .ensures) _ (sym (c .before .match .keys1) ∙ c .before .before .sexp-mark .ensures) (c .loc .ensures)
+sexp-returns-2 t c =
+    let at-match = c .before in
+    let at-sexp-mark = at-match .before in
+    let at-bytes = at-sexp-mark .before in
+    let at-start = at-bytes .before .before in
+    sexp-nil (at-start .pre .1 .0 .0) (at-bytes .bytes .ensures) _ (sym (at-match .match .keys1) ∙ at-sexp-mark .sexp-mark .ensures) (c .loc .ensures)
 
 sexp-returns-3 : (t : ℕ) → sexp-lts.Need-returns-3 (sexp-calls t) (sexp-at t) sexp.Post
-sexp-returns-3 t c = sexp-pair (c .before .before .before .before .before .before .pre .1 .0 .0) (c .before .before .before .before .bytes .ensures) _ (sym (c .before .before .match .keys2) ∙ c .before .before .before .sexp-mark .ensures) (c .before .if1 .left) (c .pair .ensures)
+sexp-returns-3 t c =
+    let at-if1 = c .before in
+    let at-match = at-if1 .before in
+    let at-sexp-mark = at-match .before in
+    let at-bytes = at-sexp-mark .before in
+    let at-start = at-bytes .before .before in
+    sexp-pair (at-start .pre .1 .0 .0) (at-bytes .bytes .ensures) _ (sym (at-match .match .keys2) ∙ at-sexp-mark .sexp-mark .ensures) (at-if1 .if1 .left) (c .pair .ensures)
 
 sexp-returns-4 : (t : ℕ) → sexp-lts.Need-returns-4 (sexp-calls t) (sexp-at t) sexp.Post
-sexp-returns-4 t c = sexp-integer (c .before .before .before .before .before .before .pre .1 .0 .0) (c .before .before .before .before .bytes .ensures) _ (sym (c .before .before .match .keys3) ∙ c .before .before .before .sexp-mark .ensures) (c .before .loc2 .ensures) (c .integer .ensures)
+sexp-returns-4 t c =
+    let at-loc2 = c .before in
+    let at-match = at-loc2 .before in
+    let at-sexp-mark = at-match .before in
+    let at-bytes = at-sexp-mark .before in
+    let at-start = at-bytes .before .before in
+    sexp-integer (at-start .pre .1 .0 .0) (at-bytes .bytes .ensures) _ (sym (at-match .match .keys3) ∙ at-sexp-mark .sexp-mark .ensures) (at-loc2 .loc2 .ensures) (c .integer .ensures)
 
 sexp-returns-5 : (t : ℕ) → sexp-lts.Need-returns-5 (sexp-calls t) (sexp-at t) sexp.Post
-sexp-returns-5 t c = sexp-quoted (c .before .before .before .before .before .before .before .pre .1 .0 .0) (c .before .before .before .before .before .bytes .ensures) _ (sym (c .before .before .before .match .keys4) ∙ c .before .before .before .before .sexp-mark .ensures) (c .before .before .loc3 .ensures) (c .before .bytes2 .ensures) (c .name .ensures)
+sexp-returns-5 t c =
+    let at-bytes2 = c .before in
+    let at-loc3 = at-bytes2 .before in
+    let at-match = at-loc3 .before in
+    let at-sexp-mark = at-match .before in
+    let at-bytes = at-sexp-mark .before in
+    let at-start = at-bytes .before .before in
+    sexp-quoted (at-start .pre .1 .0 .0) (at-bytes .bytes .ensures) _ (sym (at-match .match .keys4) ∙ at-sexp-mark .sexp-mark .ensures) (at-loc3 .loc3 .ensures) (at-bytes2 .bytes2 .ensures) (c .name .ensures)
 
 sexp-returns-6 : (t : ℕ) → sexp-lts.Need-returns-6 (sexp-calls t) (sexp-at t) sexp.Post
-sexp-returns-6 t c = sexp-atom (c .before .before .before .before .before .before .pre .1 .0 .0) (c .before .before .before .before .bytes .ensures) _ (sym (c .before .before .match .keys5) ∙ c .before .before .before .sexp-mark .ensures) (c .before .loc4 .ensures) (c .name2 .ensures)
+sexp-returns-6 t c =
+    let at-loc4 = c .before in
+    let at-match = at-loc4 .before in
+    let at-sexp-mark = at-match .before in
+    let at-bytes = at-sexp-mark .before in
+    let at-start = at-bytes .before .before in
+    sexp-atom (at-start .pre .1 .0 .0) (at-bytes .bytes .ensures) _ (sym (at-match .match .keys5) ∙ at-sexp-mark .sexp-mark .ensures) (at-loc4 .loc4 .ensures) (c .name2 .ensures)
 
 sexp-returns-7 : (t : ℕ) → sexp-lts.Need-returns-7 (sexp-calls t) (sexp-at t) sexp.Post
-sexp-returns-7 t c = rw (c .refused2 .ensures) (sexp-unknown (c .before .before .before .before .before .pre .1 .0 .0) (c .before .before .before .bytes .ensures) _ (c .before .before .before .before .before .pre .1 .0 .1) (none-of-five _ (c .before .before .sexp-mark .ensures) (c .before .match .rest)))
+sexp-returns-7 t c =
+    let at-match = c .before in
+    let at-sexp-mark = at-match .before in
+    let at-bytes = at-sexp-mark .before in
+    let at-start = at-bytes .before .before in
+    rw (c .refused2 .ensures) (sexp-unknown (at-start .pre .1 .0 .0) (at-bytes .bytes .ensures) _ (at-start .pre .1 .0 .1) (none-of-five _ (at-sexp-mark .sexp-mark .ensures) (at-match .match .rest)))
 
 pub +child-sexp+pair+sexp-spec : {M : Type 1} → statement M
 +child-sexp+pair+sexp-spec = close μ-child-sexp μ-pair μ-sexp (λ t. child-sexp-lts.spec (child-sexp-calls t)

@@ -33,17 +33,26 @@ calls = (
 
 -- places: the start, from where the input is opened
 abbrev begin : lts.After-open-input calls reads.Pre reads.Post → lts.Start calls reads.Pre reads.Post
-begin c = c .before .before .before .before .before
+begin c =
+    let back = c .before .before .before in
+    let there = back .before .before in
+    there
 
 -- where the input is accepted, from later places
 abbrev copying : lts.After-walk-arg calls reads.Pre reads.Post → lts.After-enum-told calls reads.Pre reads.Post
-copying c = c .before .before .before .before .before
+copying c =
+    let back = c .before .before .before in
+    let there = back .before .before in
+    there
 
 abbrev walking : lts.After-slice-known4 calls reads.Pre reads.Post → lts.After-walk-arg calls reads.Pre reads.Post
 walking c = c .before .before .before
 
 abbrev answering : lts.After-slice-known5 calls reads.Pre reads.Post → lts.After-slice-known4 calls reads.Pre reads.Post
-answering c = c .before .before .before .before .before .before
+answering c =
+    let back = c .before .before .before in
+    let there = back .before .before .before in
+    there
 
 -- the record that is accepted
 accepts : (c : lts.After-enum-told calls reads.Pre reads.Post)

@@ -42,25 +42,43 @@ calls t = (
 module _ (t : ℕ) where
   -- from a place back to an earlier one
   abbrev start : nested-lts.After-skip (calls t) (nested-at t) nested.Post → nested-lts.Start (calls t) (nested-at t) nested.Post
-  start c = c .before .before .before .before
+  start c =
+      let back = c .before .before .before in
+      let there = back .before in
+      there
 
   abbrev skipped : nested-lts.After-put-let (calls t) (nested-at t) nested.Post → nested-lts.After-skip (calls t) (nested-at t) nested.Post
-  skipped c = c .before .before .before .before
+  skipped c =
+      let back = c .before .before .before in
+      let there = back .before in
+      there
 
   abbrev written : nested-lts.After-nested (calls t) (nested-at t) nested.Post → nested-lts.After-put-let (calls t) (nested-at t) nested.Post
-  written c = c .before .before .before .before .before .before
+  written c =
+      let back = c .before .before .before in
+      let there = back .before .before .before in
+      there
 
   abbrev given : nested-lts.After-struct-known2 (calls t) (nested-at t) nested.Post → nested-lts.After-put-let (calls t) (nested-at t) nested.Post
-  given c = c .before .before .before .before
+  given c =
+      let back = c .before .before .before in
+      let there = back .before in
+      there
 
   abbrev lent : nested-lts.After-struct-known3 (calls t) (nested-at t) nested.Post → nested-lts.After-put-let (calls t) (nested-at t) nested.Post
   lent c = given (c .before)
 
   abbrev refused : nested-lts.After-known-told (calls t) (nested-at t) nested.Post → nested-lts.After-nested (calls t) (nested-at t) nested.Post
-  refused c = c .before .before .before .before .before
+  refused c =
+      let back = c .before .before .before in
+      let there = back .before .before in
+      there
 
   abbrev made : nested-lts.After-r (calls t) (nested-at t) nested.Post → nested-lts.After-nested (calls t) (nested-at t) nested.Post
-  made c = c .before .before .before .before
+  made c =
+      let back = c .before .before .before in
+      let there = back .before in
+      there
 
   -- a binding is left, and stands below free
   some : (c : nested-lts.After-skip (calls t) (nested-at t) nested.Post) → 0 < start c .args .left

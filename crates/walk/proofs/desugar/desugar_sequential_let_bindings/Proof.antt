@@ -13,10 +13,16 @@ abbrev viewed : tie.After-nested → tie.After-let-view
 viewed c = c .before .before .before
 
 abbrev refused : tie.After-known-told → tie.After-nested
-refused c = c .before .before .before .before .before
+refused c =
+    let back = c .before .before .before in
+    let there = back .before .before in
+    there
 
 abbrev made : tie.After-known-told2 → tie.After-nested
-made c = c .before .before .before .before .before
+made c =
+    let back = c .before .before .before in
+    let there = back .before .before in
+    there
 
 sub-t17 : tie.Need-sub-t17
 sub-t17 c = let v = c .before .before in omega (arith, let-low (v .let-view .ensures) (start v .pre))

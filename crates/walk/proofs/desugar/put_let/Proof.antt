@@ -45,10 +45,12 @@ same-length c = search needs
 returns : tie.Need-returns
 unfolding ascii kind-field byte
 returns c =
-    let d = c .before .before .before .before .before .before in
+    let at-copy2 = c .before .before in
+    let back = at-copy2 .before .before .before in
+    let d = back .before in
     let e = d .before .before .before .before .before .before .before .before .before in
     let p = e .before .before .before .before .pre in
-    let-written (e .put .ensures) (d .before .before .before .before .before .copy .ensures) (d .put2 .ensures) (c .before .before .copy2 .ensures) refl
+    let-written (e .put .ensures) (d .before .before .before .before .before .copy .ensures) (d .put2 .ensures) (at-copy2 .copy2 .ensures) refl
     refl refl (p .0 .0) (p .0 .1) (p .1)
 
 pub put-let-spec : {M : Type 1} → statement M

@@ -9,7 +9,10 @@ use Rattle.walk.proofs.invent.atom.Tie as tie
 
 -- from the test back to the start
 abbrev start : tie.After-same → tie.Start
-start c = c .before .before .before .before .before
+start c =
+    let back = c .before .before .before in
+    let there = back .before .before in
+    there
 
 returns : tie.Need-returns
 unfolding ascii

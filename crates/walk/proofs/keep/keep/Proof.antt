@@ -8,7 +8,10 @@ use Rattle.walk.proofs.keep.keep.Tie as tie
 
 -- from the copy back to the start
 abbrev start : tie.After-copy → tie.Start
-start c = c .before .before .before .before .before
+start c =
+    let back = c .before .before .before in
+    let there = back .before .before in
+    there
 
 returns : tie.Need-returns
 returns c = bytes-over-long (c .over-long .ensures) (c .before .if1 .taken) (omega arith)

@@ -10,19 +10,34 @@ use Rattle.walk.proofs.leaves.rename_behind_mark.Tie as tie
 
 -- from a place back to an earlier one
 abbrev start : tie.After-copy → tie.Start
-start c = c .before .before .before .before .before
+start c =
+    let back = c .before .before .before in
+    let there = back .before .before in
+    there
 
 abbrev copied : tie.After-rename-atom → tie.After-copy
-copied c = c .before .before .before .before .before
+copied c =
+    let back = c .before .before .before in
+    let there = back .before .before in
+    there
 
 abbrev lent : tie.After-struct-known2 → tie.After-copy
-lent c = c .before .before .before .before
+lent c =
+    let back = c .before .before .before in
+    let there = back .before in
+    there
 
 abbrev refused : tie.After-known-told → tie.After-rename-atom
-refused c = c .before .before .before .before .before
+refused c =
+    let back = c .before .before .before in
+    let there = back .before .before in
+    there
 
 abbrev renamed : tie.After-r → tie.After-rename-atom
-renamed c = c .before .before .before .before
+renamed c =
+    let back = c .before .before .before in
+    let there = back .before in
+    there
 
 -- the mark fits
 fits : (c : tie.After-copy) → mark-width ≤ start c .args .task .f

@@ -23,7 +23,10 @@ sub-past-record : tie.Need-sub-past-record Inv-loop μ-loop
 sub-past-record c = c .before .loop .inv .some
 
 mul-past-record : tie.Need-mul-past-record Inv-loop μ-loop
-mul-past-record c = let s = c .before .before .before .before in omega (arith, s .good, length-set (s .args .starts .now) 0 (s .args .first), c .before .loop .inv .upto)
+mul-past-record c =
+    let at-loop = c .before in
+    let s = at-loop .before .before .before in
+    omega (arith, s .good, length-set (s .args .starts .now) 0 (s .args .first), at-loop .loop .inv .upto)
 
 slice-read-past-record : tie.Need-slice-read-past-record Inv-loop μ-loop
 slice-read-past-record c = let l = c .before .before .loop in omega (arith, l .inv .size, l .inv .upto, l .inv .some)
@@ -32,13 +35,19 @@ past-record-requires : tie.Need-past-record-requires Inv-loop μ-loop
 past-record-requires c κs = c .before .before .loop .inv .within
 
 mul-starts : tie.Need-mul-starts Inv-loop μ-loop
-mul-starts c = let s = c .before .before .before .before .before .before in omega (arith, s .good, length-set (s .args .starts .now) 0 (s .args .first), c .before .before .before .loop .inv .upto)
+mul-starts c =
+    let at-loop = c .before .before .before in
+    let s = at-loop .before .before .before in
+    omega (arith, s .good, length-set (s .args .starts .now) 0 (s .args .first), at-loop .loop .inv .upto)
 
 slice-write-starts-2 : tie.Need-slice-write-starts-2 Inv-loop μ-loop
 slice-write-starts-2 c = omega arith
 
 add-i : tie.Need-add-i Inv-loop μ-loop
-add-i c = let s = c .before .before .before .before .before .before in omega (arith, s .good, length-set (s .args .starts .now) 0 (s .args .first), c .before .before .before .loop .inv .upto)
+add-i c =
+    let at-loop = c .before .before .before in
+    let s = at-loop .before .before .before in
+    omega (arith, s .good, length-set (s .args .starts .now) 0 (s .args .first), at-loop .loop .inv .upto)
 
 loop-less : tie.Need-loop-less Inv-loop μ-loop
 loop-less c = let l = c .before .before .before .loop in omega (arith, length-set (l .starts) (l .i) (c .past-record .result))
@@ -47,12 +56,16 @@ loop-again : tie.Need-loop-again Inv-loop μ-loop
 loop-again c = let l = c .before .before .before .loop in started-next (l .inv) (omega (arith, l .inv .size)) (c .past-record .ensures)
 
 same-length : tie.Need-same-length Inv-loop μ-loop
-same-length c = let s = c .before .before .before .before in c .before .loop .inv .size ∙ length-set (s .args .starts .now) 0 (s .args .first)
+same-length c =
+    let at-loop = c .before in
+    let s = at-loop .before .before .before in
+    at-loop .loop .inv .size ∙ length-set (s .args .starts .now) 0 (s .args .first)
 
 returns : tie.Need-returns Inv-loop μ-loop
 returns c =
-    let s = c .before .before .before .before in
-    let l = c .before .loop in
+    let at-loop = c .before in
+    let s = at-loop .before .before .before in
+    let l = at-loop .loop in
     λ bs v a n. started-all (l .inv) (omega (arith, l .inv .size)) bs v a (length-set (s .args .starts .now) 0 (s .args .first) ∙ n)
 
 pub binding-starts-spec : {M : Type 1} → statement M

@@ -14,9 +14,11 @@ same-length c = search needs
 
 returns : tie.Need-returns
 returns c =
+    let at-copy = c .before .before in
+    let at-if1 = at-copy .before .before in
     record {
-      copied = λ e. (c .before .before .copy .ensures, refl);
-      stayed = λ n. let t = c .before .before .before .before .if1 .taken in let z : _≡_ {A = ℕ} 0 1 = cc in absurd (omega arith);
+      copied = λ e. (at-copy .copy .ensures, refl);
+      stayed = λ n. let t = at-if1 .if1 .taken in let z : _≡_ {A = ℕ} 0 1 = cc in absurd (omega arith);
     }
 
 returns-2 : tie.Need-returns-2

@@ -7,10 +7,16 @@ use Rattle.walk.proofs.scopes.by_names.Tie as tie
 
 -- from a place back to an earlier one
 abbrev refused : tie.After-known-told → tie.After-rename-in-cons
-refused c = c .before .before .before .before .before
+refused c =
+    let back = c .before .before .before in
+    let there = back .before .before in
+    there
 
 abbrev renamed : tie.After-known-told2 → tie.After-rename-in-cons
-renamed c = c .before .before .before .before .before
+renamed c =
+    let back = c .before .before .before in
+    let there = back .before .before in
+    there
 
 abbrev start : tie.After-rename-in-cons → tie.Start
 start c = c .before .before .before

@@ -16,10 +16,16 @@ abbrev other : tie.After-new-args → tie.Else1
 other c = c .before .before
 
 abbrev refused : tie.After-known-told → tie.After-new-args
-refused c = c .before .before .before .before .before
+refused c =
+    let back = c .before .before .before in
+    let there = back .before .before in
+    there
 
 abbrev drawn : tie.After-r2 → tie.After-new-args
-drawn c = c .before .before .before .before
+drawn c =
+    let back = c .before .before .before in
+    let there = back .before in
+    there
 
 -- a Complex pattern
 here : (c : tie.Else1) → ComplexHere (now (start c .args .mem)) (start c .args .free) (start c .args .f) (start c .args .counter) (start c .pre .p)

@@ -20,10 +20,16 @@ abbrev start : tie.In-loop Inv-loop μ-loop → tie.Start Inv-loop μ-loop
 start c = c .before .before .before
 
 abbrev round : tie.After-make-binding-unique Inv-loop μ-loop → tie.In-loop Inv-loop μ-loop
-round c = c .before .before .before .before
+round c =
+    let back = c .before .before .before in
+    let there = back .before in
+    there
 
 abbrev drawn : tie.After-r2 Inv-loop μ-loop → tie.After-make-binding-unique Inv-loop μ-loop
-drawn c = c .before .before .before .before
+drawn c =
+    let back = c .before .before .before in
+    let there = back .before in
+    there
 
 abbrev got : tie.After-summed Inv-loop μ-loop → tie.After-r2 Inv-loop μ-loop
 got c = c .before .before
@@ -75,7 +81,10 @@ sub-make-binding-unique-2 : tie.Need-sub-make-binding-unique-2 Inv-loop μ-loop
 sub-make-binding-unique-2 c = let i = c .before .before in omega (arith, places i .0, places i .1)
 
 sub-make-binding-unique-3 : tie.Need-sub-make-binding-unique-3 Inv-loop μ-loop
-sub-make-binding-unique-3 c = c .before .before .before .before .loop .inv .within
+sub-make-binding-unique-3 c =
+    let back = c .before .before .before in
+    let at-loop = back .before in
+    at-loop .loop .inv .within
 
 make-binding-unique-requires : tie.Need-make-binding-unique-requires Inv-loop μ-loop
 make-binding-unique-requires c κs = let i = c .before .before .before in next-asked (i .before .loop .inv) (next i)

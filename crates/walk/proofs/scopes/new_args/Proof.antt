@@ -9,7 +9,10 @@ abbrev start : tie.After-invent-new-names-sexp → tie.Start
 start c = c .before .before .before
 
 abbrev invented : tie.After-g → tie.After-invent-new-names-sexp
-invented c = c .before .before .before .before
+invented c =
+    let back = c .before .before .before in
+    let there = back .before in
+    there
 
 invent-new-names-sexp-requires : tie.Need-invent-new-names-sexp-requires
 invent-new-names-sexp-requires c κs = args-drawable (c .before .before .pre)

@@ -17,10 +17,16 @@ abbrev sized : tie.After-push → tie.After-number
 sized c = c .before .before
 
 abbrev pushed : tie.After-g → tie.After-push
-pushed c = c .before .before .before .before
+pushed c =
+    let back = c .before .before .before in
+    let there = back .before in
+    there
 
 abbrev grown : tie.After-copy → tie.After-g
-grown c = c .before .before .before .before
+grown c =
+    let back = c .before .before .before in
+    let there = back .before in
+    there
 
 -- where things stand
 places : (c : tie.After-g)

@@ -84,16 +84,28 @@ rename-calls t = (
 module _ (t : ℕ) where
   -- `alone`: from its call back to the start
   abbrev alone-start : alone-lts.After-rename (alone-calls t) (alone-at t) alone.Post → alone-lts.Start (alone-calls t) (alone-at t) alone.Post
-  alone-start c = c .before .before .before .before .before
+  alone-start c =
+      let back = c .before .before .before in
+      let there = back .before .before in
+      there
 
   abbrev lent : alone-lts.After-struct-known2 (alone-calls t) (alone-at t) alone.Post → alone-lts.Start (alone-calls t) (alone-at t) alone.Post
-  lent c = c .before .before .before .before
+  lent c =
+      let back = c .before .before .before in
+      let there = back .before in
+      there
 
   abbrev refused : alone-lts.After-known-told (alone-calls t) (alone-at t) alone.Post → alone-lts.After-rename (alone-calls t) (alone-at t) alone.Post
-  refused c = c .before .before .before .before .before
+  refused c =
+      let back = c .before .before .before in
+      let there = back .before .before in
+      there
 
   abbrev done : alone-lts.After-known-told2 (alone-calls t) (alone-at t) alone.Post → alone-lts.After-rename (alone-calls t) (alone-at t) alone.Post
-  done c = c .before .before .before .before .before
+  done c =
+      let back = c .before .before .before in
+      let there = back .before .before in
+      there
 
   -- the element starts below free
   within : (c : alone-lts.Start (alone-calls t) (alone-at t) alone.Post) → c .args .at ≤ c .args .task .free
@@ -133,28 +145,49 @@ module _ (t : ℕ) where
 
   -- `pair`: from a place back to an earlier one
   abbrev start : pair-lts.After-copy (pair-calls t) (pair-at t) pair.Post → pair-lts.Start (pair-calls t) (pair-at t) pair.Post
-  start c = c .before .before .before .before
+  start c =
+      let back = c .before .before .before in
+      let there = back .before in
+      there
 
   abbrev copied : pair-lts.After-rename (pair-calls t) (pair-at t) pair.Post → pair-lts.After-copy (pair-calls t) (pair-at t) pair.Post
-  copied c = c .before .before .before .before .before
+  copied c =
+      let back = c .before .before .before in
+      let there = back .before .before in
+      there
 
   abbrev part : pair-lts.After-rename-arg (pair-calls t) (pair-at t) pair.Post → pair-lts.After-copy (pair-calls t) (pair-at t) pair.Post
-  part c = c .before .before .before .before
+  part c =
+      let back = c .before .before .before in
+      let there = back .before in
+      there
 
   abbrev first-no : pair-lts.After-known-told (pair-calls t) (pair-at t) pair.Post → pair-lts.After-rename (pair-calls t) (pair-at t) pair.Post
-  first-no c = c .before .before .before .before .before
+  first-no c =
+      let back = c .before .before .before in
+      let there = back .before .before in
+      there
 
   abbrev second-no : pair-lts.After-known-told3 (pair-calls t) (pair-at t) pair.Post → pair-lts.After-rename2 (pair-calls t) (pair-at t) pair.Post
-  second-no c = c .before .before .before .before .before
+  second-no c =
+      let back = c .before .before .before in
+      let there = back .before .before in
+      there
 
   abbrev renamed : pair-lts.After-known-told2 (pair-calls t) (pair-at t) pair.Post → pair-lts.After-rename (pair-calls t) (pair-at t) pair.Post
-  renamed c = c .before .before .before .before .before
+  renamed c =
+      let back = c .before .before .before in
+      let there = back .before .before in
+      there
 
   abbrev told : pair-lts.After-rename2 (pair-calls t) (pair-at t) pair.Post → pair-lts.After-known-told2 (pair-calls t) (pair-at t) pair.Post
   told c = c .before .before
 
   abbrev again : pair-lts.After-known-told4 (pair-calls t) (pair-at t) pair.Post → pair-lts.After-rename2 (pair-calls t) (pair-at t) pair.Post
-  again c = c .before .before .before .before .before
+  again c =
+      let back = c .before .before .before in
+      let there = back .before .before in
+      there
 
   -- the mark and the L fit
   fits : (c : pair-lts.After-copy (pair-calls t) (pair-at t) pair.Post) → head-width ≤ start c .args .task .f

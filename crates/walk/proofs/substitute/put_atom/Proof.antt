@@ -13,7 +13,10 @@ use Rattle.records.specs.Records.{head-width}
 
 -- from the copy back to the start
 abbrev start : tie.After-copy → tie.Start
-start c = c .before .before .before .before
+start c =
+    let back = c .before .before .before in
+    let there = back .before in
+    there
 
 -- the record fits
 room : (c : tie.Start) → c .args .free + head-width + name-width + length (c .args .name .now) ≤ length (c .args .mem .now)
@@ -30,9 +33,11 @@ put-name-requires c κs =
 
 returns : tie.Need-returns
 returns c =
-    let d = c .before .before .before .before .before .before in
+    let at-put-name = c .before .before in
+    let back = at-put-name .before .before .before in
+    let d = back .before in
     let s = start d in
-    written-atom (s .args .name .now) (d .copy .ensures) (c .before .before .put-name .ensures) (omega arith) (s .pre .1 .1) (omega (arith, room s))
+    written-atom (s .args .name .now) (d .copy .ensures) (at-put-name .put-name .ensures) (omega arith) (s .pre .1 .1) (omega (arith, room s))
 
 pub put-atom-spec : {M : Type 1} → statement M
 put-atom-spec =

@@ -16,7 +16,10 @@ use Rattle.walk.proofs.substitute.rename_name.Tie as tie
 
 -- from a place back to an earlier one
 abbrev lent : tie.After-lookup-arg2 → tie.Start
-lent c = c .before .before .before .before .before
+lent c =
+    let back = c .before .before .before in
+    let there = back .before .before in
+    there
 
 abbrev start : tie.After-lookup → tie.Start
 start c = lent (c .before)

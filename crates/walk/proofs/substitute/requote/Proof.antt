@@ -14,16 +14,28 @@ use Rattle.walk.proofs.substitute.requote.Tie as tie
 
 -- from a place back to an earlier one
 abbrev start : tie.After-skip-sexp → tie.Start
-start c = c .before .before .before .before
+start c =
+    let back = c .before .before .before in
+    let there = back .before in
+    there
 
 abbrev sized : tie.After-copy → tie.After-skip-sexp
-sized c = c .before .before .before .before
+sized c =
+    let back = c .before .before .before in
+    let there = back .before in
+    there
 
 abbrev copied : tie.After-copy2 → tie.After-copy
-copied c = c .before .before .before .before
+copied c =
+    let back = c .before .before .before in
+    let there = back .before in
+    there
 
 abbrev located : tie.After-put → tie.After-copy2
-located c = c .before .before .before .before .before
+located c =
+    let back = c .before .before .before in
+    let there = back .before .before in
+    there
 
 -- v, and its length
 here : (c : tie.Start) → Seen (substitution (c .args .quasi)) (c .pre .1) (c .pre .0 .tree)

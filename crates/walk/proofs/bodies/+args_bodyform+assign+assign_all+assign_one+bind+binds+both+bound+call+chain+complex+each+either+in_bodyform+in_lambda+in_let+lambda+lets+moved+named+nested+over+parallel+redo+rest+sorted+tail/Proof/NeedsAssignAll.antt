@@ -19,7 +19,10 @@ abbrev pub μ-loop : assign-all-lts.MeasureT-loop
 -- places
 module _ (t : ℕ) where
   abbrev start : assign-all-lts.At-loop (assign-all-calls t) (assign-all-at t) assign-all.Post Inv-loop μ-loop → assign-all-lts.Start (assign-all-calls t) (assign-all-at t) assign-all.Post Inv-loop μ-loop
-  start c = c .before .before .before .before
+  start c =
+      let back = c .before .before .before in
+      let there = back .before in
+      there
 
   abbrev looped : assign-all-lts.After-shared-slice-known5 (assign-all-calls t) (assign-all-at t) assign-all.Post Inv-loop μ-loop → assign-all-lts.In-loop (assign-all-calls t) (assign-all-at t) assign-all.Post Inv-loop μ-loop
   looped c = c .before .before .before
@@ -28,10 +31,16 @@ module _ (t : ℕ) where
   read c = c .before .before .before
 
   abbrev refused : assign-all-lts.After-known-told (assign-all-calls t) (assign-all-at t) assign-all.Post Inv-loop μ-loop → assign-all-lts.After-assign-one (assign-all-calls t) (assign-all-at t) assign-all.Post Inv-loop μ-loop
-  refused c = c .before .before .before .before .before
+  refused c =
+      let back = c .before .before .before in
+      let there = back .before .before in
+      there
 
   abbrev made : assign-all-lts.After-known-told2 (assign-all-calls t) (assign-all-at t) assign-all.Post Inv-loop μ-loop → assign-all-lts.After-assign-one (assign-all-calls t) (assign-all-at t) assign-all.Post Inv-loop μ-loop
-  made c = c .before .before .before .before .before
+  made c =
+      let back = c .before .before .before in
+      let there = back .before .before in
+      there
 
   -- an index is left
   more : (k : assign-all-lts.In-loop (assign-all-calls t) (assign-all-at t) assign-all.Post Inv-loop μ-loop) → k .before .loop .j < length (start (k .before) .args .row .now)

@@ -14,13 +14,22 @@ module _ (t : ℕ) where
   start c = c .before .before
 
   abbrev copied : assign-one-lts.After-complex (assign-one-calls t) (assign-one-at t) assign-one.Post → assign-one-lts.After-copy2 (assign-one-calls t) (assign-one-at t) assign-one.Post
-  copied c = c .before .before .before .before
+  copied c =
+      let back = c .before .before .before in
+      let there = back .before in
+      there
 
   abbrev refused : assign-one-lts.After-known-told (assign-one-calls t) (assign-one-at t) assign-one.Post → assign-one-lts.After-complex (assign-one-calls t) (assign-one-at t) assign-one.Post
-  refused c = c .before .before .before .before .before
+  refused c =
+      let back = c .before .before .before in
+      let there = back .before .before in
+      there
 
   abbrev made : assign-one-lts.After-known-told2 (assign-one-calls t) (assign-one-at t) assign-one.Post → assign-one-lts.After-complex (assign-one-calls t) (assign-one-at t) assign-one.Post
-  made c = c .before .before .before .before .before
+  made c =
+      let back = c .before .before .before in
+      let there = back .before .before in
+      there
 
 -- needs
 module _ (t : ℕ) where

@@ -17,22 +17,37 @@ module _ (t : ℕ) where
   viewed c = c .before .before
 
   abbrev copied : call-lts.After-struct-known (call-calls t) (call-at t) call.Post → call-lts.After-copy (call-calls t) (call-at t) call.Post
-  copied c = c .before .before .before .before
+  copied c =
+      let back = c .before .before .before in
+      let there = back .before in
+      there
 
   abbrev refused : call-lts.After-r (call-calls t) (call-at t) call.Post → call-lts.After-each (call-calls t) (call-at t) call.Post
-  refused c = c .before .before .before .before
+  refused c =
+      let back = c .before .before .before in
+      let there = back .before in
+      there
 
   abbrev walked : call-lts.After-known-told2 (call-calls t) (call-at t) call.Post → call-lts.After-each (call-calls t) (call-at t) call.Post
-  walked c = c .before .before .before .before .before
+  walked c =
+      let back = c .before .before .before in
+      let there = back .before .before in
+      there
 
   abbrev told : call-lts.After-tail (call-calls t) (call-at t) call.Post → call-lts.After-known-told2 (call-calls t) (call-at t) call.Post
   told c = c .before .before .before
 
   abbrev stopped : call-lts.After-r3 (call-calls t) (call-at t) call.Post → call-lts.After-tail (call-calls t) (call-at t) call.Post
-  stopped c = c .before .before .before .before
+  stopped c =
+      let back = c .before .before .before in
+      let there = back .before in
+      there
 
   abbrev ended : call-lts.After-i (call-calls t) (call-at t) call.Post → call-lts.After-tail (call-calls t) (call-at t) call.Post
-  ended c = c .before .before .before .before
+  ended c =
+      let back = c .before .before .before in
+      let there = back .before in
+      there
 
 -- what the needs share
 module _ (t : ℕ) where

@@ -13,10 +13,16 @@ module _ (t : ℕ) where
   start c = c .before .before .before
 
   abbrev drawn : complex-lts.After-known-told2 (complex-calls t) (complex-at t) complex.Post → complex-lts.After-invent-new-names-sexp (complex-calls t) (complex-at t) complex.Post
-  drawn c = c .before .before .before .before .before
+  drawn c =
+      let back = c .before .before .before in
+      let there = back .before .before in
+      there
 
   abbrev refused : complex-lts.After-known-told (complex-calls t) (complex-at t) complex.Post → complex-lts.After-invent-new-names-sexp (complex-calls t) (complex-at t) complex.Post
-  refused c = c .before .before .before .before .before
+  refused c =
+      let back = c .before .before .before in
+      let there = back .before .before in
+      there
 
 -- needs
 module _ (t : ℕ) where

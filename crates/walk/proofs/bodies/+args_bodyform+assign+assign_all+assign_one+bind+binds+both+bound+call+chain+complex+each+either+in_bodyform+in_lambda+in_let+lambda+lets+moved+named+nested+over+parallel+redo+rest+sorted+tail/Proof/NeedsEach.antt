@@ -21,15 +21,24 @@ module _ (t : ℕ) where
 
   -- the element that was answered
   abbrev told : each-lts.After-r2 (each-calls t) (each-at t) each.Post Inv-loop μ-loop → each-lts.After-either (each-calls t) (each-at t) each.Post Inv-loop μ-loop
-  told c = c .before .before .before .before
+  told c =
+      let back = c .before .before .before in
+      let there = back .before in
+      there
 
   -- the element that was refused
   abbrev refused : each-lts.After-r (each-calls t) (each-at t) each.Post Inv-loop μ-loop → each-lts.After-either (each-calls t) (each-at t) each.Post Inv-loop μ-loop
-  refused c = c .before .before .before .before
+  refused c =
+      let back = c .before .before .before in
+      let there = back .before in
+      there
 
   -- the element that was put at its place
   abbrev kept : each-lts.After-slice-known3 (each-calls t) (each-at t) each.Post Inv-loop μ-loop → each-lts.Else1 (each-calls t) (each-at t) each.Post Inv-loop μ-loop
-  kept c = c .before .before .before .before .before
+  kept c =
+      let back = c .before .before .before in
+      let there = back .before .before in
+      there
 
 -- what each turn and the ways out answer
 module _ (t : ℕ) where

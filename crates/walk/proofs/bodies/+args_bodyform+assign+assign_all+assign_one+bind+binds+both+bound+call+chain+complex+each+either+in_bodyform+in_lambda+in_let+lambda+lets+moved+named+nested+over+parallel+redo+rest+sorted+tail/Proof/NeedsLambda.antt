@@ -14,28 +14,49 @@ use Rattle.walk.proofs.bodies.+args_bodyform+assign+assign_all+assign_o
 module _ (t : ℕ) where
   -- from a place back to an earlier one
   abbrev start : lambda-lts.After-copy (lambda-calls t) (lambda-at t) lambda.Post → lambda-lts.Start (lambda-calls t) (lambda-at t) lambda.Post
-  start c = c .before .before .before .before .before
+  start c =
+      let back = c .before .before .before in
+      let there = back .before .before in
+      there
 
   abbrev viewed : lambda-lts.After-copy (lambda-calls t) (lambda-at t) lambda.Post → lambda-lts.After-lambda-view (lambda-calls t) (lambda-at t) lambda.Post
   viewed c = c .before .before
 
   abbrev copied : lambda-lts.After-new-args (lambda-calls t) (lambda-at t) lambda.Post → lambda-lts.After-copy (lambda-calls t) (lambda-at t) lambda.Post
-  copied c = c .before .before .before .before
+  copied c =
+      let back = c .before .before .before in
+      let there = back .before in
+      there
 
   abbrev drawn : lambda-lts.After-r2 (lambda-calls t) (lambda-at t) lambda.Post → lambda-lts.After-new-args (lambda-calls t) (lambda-at t) lambda.Post
-  drawn c = c .before .before .before .before
+  drawn c =
+      let back = c .before .before .before in
+      let there = back .before in
+      there
 
   abbrev got : lambda-lts.After-both (lambda-calls t) (lambda-at t) lambda.Post → lambda-lts.After-r2 (lambda-calls t) (lambda-at t) lambda.Post
-  got c = c .before .before .before .before
+  got c =
+      let back = c .before .before .before in
+      let there = back .before in
+      there
 
   abbrev walked : lambda-lts.After-i (lambda-calls t) (lambda-at t) lambda.Post → lambda-lts.After-both (lambda-calls t) (lambda-at t) lambda.Post
-  walked c = c .before .before .before .before
+  walked c =
+      let back = c .before .before .before in
+      let there = back .before in
+      there
 
   abbrev refused : lambda-lts.After-r (lambda-calls t) (lambda-at t) lambda.Post → lambda-lts.After-new-args (lambda-calls t) (lambda-at t) lambda.Post
-  refused c = c .before .before .before .before
+  refused c =
+      let back = c .before .before .before in
+      let there = back .before in
+      there
 
   abbrev stopped : lambda-lts.After-r3 (lambda-calls t) (lambda-at t) lambda.Post → lambda-lts.After-both (lambda-calls t) (lambda-at t) lambda.Post
-  stopped c = c .before .before .before .before
+  stopped c =
+      let back = c .before .before .before in
+      let there = back .before in
+      there
 
   -- the BF
   here : (c : lambda-lts.After-copy (lambda-calls t) (lambda-at t) lambda.Post) → LambdaHere (now (start c .args .mem)) (viewed c .lambda-view .result .args) (start c .args .t) (start c .pre .1 .tree)

@@ -13,19 +13,34 @@ use Rattle.walk.proofs.TurnedLaws.{deep, low, wide, both-ready, turned-
 -- places
 module _ (t : ℕ) where
   abbrev start : moved-lts.After-copy (moved-calls t) (moved-at t) moved.Post → moved-lts.Start (moved-calls t) (moved-at t) moved.Post
-  start c = c .before .before .before .before
+  start c =
+      let back = c .before .before .before in
+      let there = back .before in
+      there
 
   abbrev copied : moved-lts.After-copy2 (moved-calls t) (moved-at t) moved.Post → moved-lts.After-copy (moved-calls t) (moved-at t) moved.Post
-  copied c = c .before .before .before .before
+  copied c =
+      let back = c .before .before .before in
+      let there = back .before in
+      there
 
   abbrev bindings-moved : moved-lts.After-struct-known2 (moved-calls t) (moved-at t) moved.Post → moved-lts.After-copy2 (moved-calls t) (moved-at t) moved.Post
-  bindings-moved c = c .before .before .before .before
+  bindings-moved c =
+      let back = c .before .before .before in
+      let there = back .before in
+      there
 
   abbrev refused : moved-lts.After-known-told (moved-calls t) (moved-at t) moved.Post → moved-lts.After-both (moved-calls t) (moved-at t) moved.Post
-  refused c = c .before .before .before .before .before
+  refused c =
+      let back = c .before .before .before in
+      let there = back .before .before in
+      there
 
   abbrev made : moved-lts.After-known-told2 (moved-calls t) (moved-at t) moved.Post → moved-lts.After-both (moved-calls t) (moved-at t) moved.Post
-  made c = c .before .before .before .before .before
+  made c =
+      let back = c .before .before .before in
+      let there = back .before .before in
+      there
 
   -- what is read and written fits
   sums : (c : moved-lts.After-known-told2 (moved-calls t) (moved-at t) moved.Post)

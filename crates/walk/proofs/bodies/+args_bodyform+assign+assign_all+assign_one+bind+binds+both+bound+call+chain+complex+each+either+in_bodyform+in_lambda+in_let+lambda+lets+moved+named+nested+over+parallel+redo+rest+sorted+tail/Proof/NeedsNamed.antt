@@ -10,13 +10,22 @@ use Rattle.walk.proofs.NamedLaws.{own-low, own-cut, own-ready, own-refu
 -- places
 module _ (t : ℕ) where
   abbrev start : named-lts.After-struct-known2 (named-calls t) (named-at t) named.Post → named-lts.Start (named-calls t) (named-at t) named.Post
-  start c = c .before .before .before .before
+  start c =
+      let back = c .before .before .before in
+      let there = back .before in
+      there
 
   abbrev owned : named-lts.After-known-told2 (named-calls t) (named-at t) named.Post → named-lts.After-args-bodyform (named-calls t) (named-at t) named.Post
-  owned c = c .before .before .before .before .before
+  owned c =
+      let back = c .before .before .before in
+      let there = back .before .before in
+      there
 
   abbrev refused : named-lts.After-known-told (named-calls t) (named-at t) named.Post → named-lts.After-args-bodyform (named-calls t) (named-at t) named.Post
-  refused c = c .before .before .before .before .before
+  refused c =
+      let back = c .before .before .before in
+      let there = back .before .before in
+      there
 
 -- needs
 module _ (t : ℕ) where

@@ -12,25 +12,43 @@ use Rattle.walk.proofs.RemakeLaws.{pattern-asks, pattern-refused, patte
 -- places
 module _ (t : ℕ) where
   abbrev start : redo-lts.After-rename-in-cons (redo-calls t) (redo-at t) redo.Post → redo-lts.Start (redo-calls t) (redo-at t) redo.Post
-  start c = c .before .before .before .before
+  start c =
+      let back = c .before .before .before in
+      let there = back .before in
+      there
 
   abbrev bound : redo-lts.After-known-told2 (redo-calls t) (redo-at t) redo.Post → redo-lts.After-rename-in-cons (redo-calls t) (redo-at t) redo.Post
-  bound c = c .before .before .before .before .before
+  bound c =
+      let back = c .before .before .before in
+      let there = back .before .before in
+      there
 
   abbrev no-pattern : redo-lts.After-known-told (redo-calls t) (redo-at t) redo.Post → redo-lts.After-rename-in-cons (redo-calls t) (redo-at t) redo.Post
-  no-pattern c = c .before .before .before .before .before
+  no-pattern c =
+      let back = c .before .before .before in
+      let there = back .before .before in
+      there
 
   abbrev told : redo-lts.After-in-bodyform (redo-calls t) (redo-at t) redo.Post → redo-lts.After-known-told2 (redo-calls t) (redo-at t) redo.Post
   told c = c .before .before
 
   abbrev bodied : redo-lts.After-known-told4 (redo-calls t) (redo-at t) redo.Post → redo-lts.After-in-bodyform (redo-calls t) (redo-at t) redo.Post
-  bodied c = c .before .before .before .before .before
+  bodied c =
+      let back = c .before .before .before in
+      let there = back .before .before in
+      there
 
   abbrev no-body : redo-lts.After-known-told3 (redo-calls t) (redo-at t) redo.Post → redo-lts.After-in-bodyform (redo-calls t) (redo-at t) redo.Post
-  no-body c = c .before .before .before .before .before
+  no-body c =
+      let back = c .before .before .before in
+      let there = back .before .before in
+      there
 
   abbrev summed : redo-lts.After-copy (redo-calls t) (redo-at t) redo.Post → redo-lts.After-known-told4 (redo-calls t) (redo-at t) redo.Post
-  summed c = c .before .before .before .before
+  summed c =
+      let back = c .before .before .before in
+      let there = back .before in
+      there
 
   -- the new pattern fits
   fits : (c : redo-lts.After-known-told2 (redo-calls t) (redo-at t) redo.Post) → start (bound c) .args .sum + c .before .x .given .0 .1 .0 ≤ start (bound c) .args .t .f

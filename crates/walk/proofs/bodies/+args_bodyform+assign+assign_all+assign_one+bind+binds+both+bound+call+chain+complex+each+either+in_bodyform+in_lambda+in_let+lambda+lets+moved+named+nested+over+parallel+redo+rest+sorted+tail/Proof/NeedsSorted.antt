@@ -15,19 +15,34 @@ module _ (t : ℕ) where
   start c = c .before .before .before
 
   abbrev seen : sorted-lts.After-binding-starts (sorted-calls t) (sorted-at t) sorted.Post → sorted-lts.After-let-view (sorted-calls t) (sorted-at t) sorted.Post
-  seen c = c .before .before .before .before
+  seen c =
+      let back = c .before .before .before in
+      let there = back .before in
+      there
 
   abbrev listed : sorted-lts.After-assign-all-arg (sorted-calls t) (sorted-at t) sorted.Post → sorted-lts.After-binding-starts (sorted-calls t) (sorted-at t) sorted.Post
-  listed c = c .before .before .before .before
+  listed c =
+      let back = c .before .before .before in
+      let there = back .before in
+      there
 
   abbrev asked : sorted-lts.After-assign-all (sorted-calls t) (sorted-at t) sorted.Post → sorted-lts.After-assign-all-arg (sorted-calls t) (sorted-at t) sorted.Post
-  asked c = c .before .before .before .before
+  asked c =
+      let back = c .before .before .before in
+      let there = back .before in
+      there
 
   abbrev refused : sorted-lts.After-known-told (sorted-calls t) (sorted-at t) sorted.Post → sorted-lts.After-assign-all (sorted-calls t) (sorted-at t) sorted.Post
-  refused c = c .before .before .before .before .before
+  refused c =
+      let back = c .before .before .before in
+      let there = back .before .before in
+      there
 
   abbrev made : sorted-lts.After-known-told2 (sorted-calls t) (sorted-at t) sorted.Post → sorted-lts.After-assign-all (sorted-calls t) (sorted-at t) sorted.Post
-  made c = c .before .before .before .before .before
+  made c =
+      let back = c .before .before .before in
+      let there = back .before .before in
+      there
 
 -- needs
 module _ (t : ℕ) where

@@ -11,13 +11,22 @@ use Rattle.walk.proofs.bodies.+args_bodyform+assign+assign_all+assign_o
 -- places
 module _ (t : ℕ) where
   abbrev start : tail-lts.After-either (tail-calls t) (tail-at t) tail.Post → tail-lts.Start (tail-calls t) (tail-at t) tail.Post
-  start c = c .before .before .before .before .before
+  start c =
+      let back = c .before .before .before in
+      let there = back .before .before in
+      there
 
   abbrev told : tail-lts.After-r2 (tail-calls t) (tail-at t) tail.Post → tail-lts.After-either (tail-calls t) (tail-at t) tail.Post
-  told c = c .before .before .before .before
+  told c =
+      let back = c .before .before .before in
+      let there = back .before in
+      there
 
   abbrev refused : tail-lts.After-r (tail-calls t) (tail-at t) tail.Post → tail-lts.After-either (tail-calls t) (tail-at t) tail.Post
-  refused c = c .before .before .before .before
+  refused c =
+      let back = c .before .before .before in
+      let there = back .before in
+      there
 
 -- what the ways out answer
 module _ (t : ℕ) where

@@ -18,19 +18,31 @@ module _ (t : ℕ) where
 
   -- the copy, from where the rest is lent
   abbrev lent : after-lts.After-struct-known (after-calls t) (after-at t) after.Post → after-lts.After-copy (after-calls t) (after-at t) after.Post
-  lent c = c .before .before .before .before
+  lent c =
+      let back = c .before .before .before in
+      let there = back .before in
+      there
 
   -- the copy, from where the rest has its answer
   abbrev copied : after-lts.After-rest (after-calls t) (after-at t) after.Post → after-lts.After-copy (after-calls t) (after-at t) after.Post
-  copied c = c .before .before .before .before .before
+  copied c =
+      let back = c .before .before .before in
+      let there = back .before .before in
+      there
 
   -- the rest, where it is done
   abbrev walked : after-lts.After-r2 (after-calls t) (after-at t) after.Post → after-lts.After-rest (after-calls t) (after-at t) after.Post
-  walked c = c .before .before .before .before
+  walked c =
+      let back = c .before .before .before in
+      let there = back .before in
+      there
 
   -- the rest, where it is refused
   abbrev stopped : after-lts.After-r (after-calls t) (after-at t) after.Post → after-lts.After-rest (after-calls t) (after-at t) after.Post
-  stopped c = c .before .before .before .before
+  stopped c =
+      let back = c .before .before .before in
+      let there = back .before in
+      there
 
   -- how much is read and written
   sums : (c : after-lts.After-r2 (after-calls t) (after-at t) after.Post)

@@ -10,15 +10,24 @@ use Rattle.walk.proofs.forms.+after+args_compileform+args_helperform+bo
 -- places: from each back to an earlier one
 module _ (t : ℕ) where
   abbrev start : child-lts.After-by-rule (child-calls t) (child-at t) child.Post → child-lts.Start (child-calls t) (child-at t) child.Post
-  start c = c .before .before .before .before
+  start c =
+      let back = c .before .before .before in
+      let there = back .before in
+      there
 
   -- the use of a rule that was refused
   abbrev refused : child-lts.After-known-told (child-calls t) (child-at t) child.Post → child-lts.After-by-rule (child-calls t) (child-at t) child.Post
-  refused c = c .before .before .before .before .before
+  refused c =
+      let back = c .before .before .before in
+      let there = back .before .before in
+      there
 
   -- the one that was answered
   abbrev answered : child-lts.After-known-told2 (child-calls t) (child-at t) child.Post → child-lts.After-by-rule (child-calls t) (child-at t) child.Post
-  answered c = c .before .before .before .before .before
+  answered c =
+      let back = c .before .before .before in
+      let there = back .before .before in
+      there
 
 -- needs
 module _ (t : ℕ) where
