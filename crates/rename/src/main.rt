@@ -1,18 +1,11 @@
-// The calls of the rename pass from the command line: the first argument says which.
-mod check;
-mod counter;
-mod file;
-mod kind;
-mod name;
-mod order;
-mod provided;
-mod refusal;
+// The calls of the rename pass from the command line: the first argument says which. Results go to
+// standard output, all else to standard error.
+mod arguments;
 mod renaming;
-mod say;
 mod task;
 mod usage;
-mod waits;
 
+use libc::STDERR_FILENO;
 use renaming::Call;
 
 // Runs the command that the first argument names.
@@ -20,18 +13,26 @@ fn main() {
     let mut command = io::buffer();
     let n = os::arg(1, &mut command);
     if names::bytes::same(&command[..n], b"name") {
-        name::run();
+        arguments::name();
     } else if names::bytes::same(&command[..n], b"check") {
-        check::run();
+        arguments::check();
     } else if names::bytes::same(&command[..n], b"order") {
-        order::run();
+        arguments::order();
     } else if names::bytes::same(&command[..n], b"whole") {
-        renaming::run(Call::Whole);
+        arguments::renaming(Call::Whole);
     } else if names::bytes::same(&command[..n], b"children") {
-        renaming::run(Call::Children);
+        arguments::renaming(Call::Children);
     } else if names::bytes::same(&command[..n], b"helper") {
-        renaming::run(Call::Helper);
+        arguments::renaming(Call::Helper);
     } else {
+        if n > 0 {
+            commands::say::wrong(
+                STDERR_FILENO,
+                b"command",
+                b"one of those below",
+                &command[..n],
+            );
+        }
         usage::print();
     }
 }

@@ -1,14 +1,13 @@
 // `rename whole|children|helper FILE F COUNTER OUT`: the calls that rename a record.
-use crate::counter;
-use crate::counter::Counter;
-use crate::file;
-use crate::refusal;
-use crate::say;
-use crate::task;
-use crate::task::Asked;
-use crate::task::WORK;
-use crate::usage;
+use commands::MOST_READ;
+use commands::WORK;
+use commands::file;
+use commands::refusal;
+use commands::say;
+use libc::STDERR_FILENO;
+use libc::STDOUT_FILENO;
 use names::Answer;
+use names::MAX_COUNTER;
 use records::MOST_LONGEST;
 use walk::call::children_only;
 use walk::call::single_helper;
@@ -21,35 +20,37 @@ pub enum Call {
     Helper,
 }
 
-// Reads F and COUNTER, and goes on to the file.
-pub fn run(call: Call) {
-    if os::arg_count() != 6 {
-        usage::print();
-        return;
-    }
-    let n = counter::argument(3);
-    if let Counter::Is(f) = n {
-        let n = counter::argument(4);
-        if let Counter::Is(c) = n {
-            task::read(Asked::Renaming(call), f as usize, c);
-        }
+// Reads FILE and renames its record.
+pub fn read(call: Call, path: &[u8], f: usize, counter: u64, work: &mut [u8; WORK]) {
+    let mut input = [0u8; MOST_READ];
+    let c = file::read(STDERR_FILENO, path, &mut input);
+    let len = c.len;
+    if c.read {
+        rename(call, &input[..len], f, counter, work);
     }
 }
 
+// Writes bytes to OUT, and answers whether they were written.
+fn write(bytes: &[u8]) -> bool {
+    let mut out = io::buffer();
+    let n = os::arg(5, &mut out);
+    file::write(STDERR_FILENO, &out[..n], bytes)
+}
+
 // Renames a record, writes it to OUT, and prints its length and the new counter, or the refusal.
-pub fn rename(call: Call, s: &[u8], f: usize, counter: u64, work: &mut [u8; WORK]) {
+fn rename(call: Call, s: &[u8], f: usize, counter: u64, work: &mut [u8; WORK]) {
     let mut result = [0u8; MOST_LONGEST];
     let a = answer(call, f, work, counter, s, &mut result);
     let len = a.len;
     let refusal = a.refusal;
     if refusal.number != 0 {
-        refusal::print_renaming(refusal, counter);
-    } else if len <= MOST_LONGEST && file::write(5, &result[..len]) {
-        say::text(b"length ");
-        say::number(len as u64);
-        say::text(b"\ncounter ");
-        say::number(a.counter);
-        say::text(b"\n");
+        refusal::print(STDERR_FILENO, refusal, counter > MAX_COUNTER, s.len() > f);
+    } else if len <= MOST_LONGEST && write(&result[..len]) {
+        say::text(STDOUT_FILENO, b"length ");
+        say::number(STDOUT_FILENO, len as u64);
+        say::text(STDOUT_FILENO, b"\ncounter ");
+        say::number(STDOUT_FILENO, a.counter);
+        say::text(STDOUT_FILENO, b"\n");
     }
 }
 

@@ -1,14 +1,9 @@
 // What a command asks of the record in FILE.
-use crate::file;
-use crate::file::MOST_READ;
-use crate::order;
 use crate::renaming;
 use crate::renaming::Call;
-use records::MOST_LONGEST;
-use records::WORK_FACTOR;
-
-// The length of work memory that is enough for every F.
-pub const WORK: usize = WORK_FACTOR * MOST_LONGEST;
+use commands::WORK;
+use commands::order::order;
+use libc::STDERR_FILENO;
 
 // An order, or a renaming.
 pub enum Asked {
@@ -16,17 +11,14 @@ pub enum Asked {
     Renaming(Call),
 }
 
-// Reads FILE and does with its record what is asked. Work memory is lent as an array, so that no
-// proof has to count its bytes, and here alone, so that the stack holds it once.
-pub fn read(asked: Asked, f: usize, counter: u64) {
-    let mut input = [0u8; MOST_READ];
-    let c = file::read(2, &mut input);
-    let len = c.len;
-    if c.read {
-        let mut work = [0u8; WORK];
-        match asked {
-            Asked::Order => order::order(&input[..len], f, &mut work),
-            Asked::Renaming(call) => renaming::rename(call, &input[..len], f, counter, &mut work),
-        }
+// Does with the record in FILE what is asked. Work memory is lent as an array, so that no proof has to
+// count its bytes, and here alone, so that the stack holds it once.
+pub fn run(asked: Asked, f: usize, counter: u64) {
+    let mut path = io::buffer();
+    let n = os::arg(2, &mut path);
+    let mut work = [0u8; WORK];
+    match asked {
+        Asked::Order => order(STDERR_FILENO, &path[..n], f, &mut work),
+        Asked::Renaming(call) => renaming::read(call, &path[..n], f, counter, &mut work),
     }
 }

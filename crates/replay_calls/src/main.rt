@@ -17,8 +17,11 @@ use records::MOST_LONGEST;
 use records::WORK_FACTOR;
 use replays::Verdict;
 use replays::reads;
+ghost use mathlib.Core.Path.{_≡_};
 ghost use Prim.Native.Nat.{_≤_};
 ghost use lib.ListN.{length};
+ghost use Rattle.replays.specs.declared.Verdict.the-variants.{Agrees};
+ghost use Rattle.replay_calls.specs.CallCases.{case-from, work-of, HeadAgrees};
 
 // The bytes of a case before its input and result.
 const HEAD: usize = 40;
@@ -39,7 +42,9 @@ const MEMORY: usize = LONGEST + BEHIND;
 const WORK: usize = WORK_FACTOR * (MOST_LONGEST + 16);
 
 // What a case gives and must get.
-fn case_of(head: &[u8; HEAD]) -> Case {
+fn case_of(head: &[u8; HEAD]) -> Case
+    ensures { λ r. ⌜ r ≡ case-from (now (head .entry)) ⌝ }
+{
     Case {
         call: number(head, 0, 1) as u8,
         f: number(head, 2, 4),
@@ -61,6 +66,7 @@ fn judged(
     result: usize,
 ) -> Verdict
     requires { ⌜ result ≤ length (now parts) ⌝ }
+    ensures { λ r. ⌜ (r ≡ Agrees → HeadAgrees (now (head .entry)) (length (now (work .entry))) (now (parts .entry)) result) ⌝ }
 {
     let c = case_of(head);
     if c.call >= CALLS {
@@ -74,6 +80,7 @@ fn judged(
 // Lends as much memory as a case asks for, and has the call answer it.
 fn lends(head: &[u8; HEAD], work: &mut [u8], mem: &mut [u8], parts: &[u8], result: usize) -> Verdict
     requires { ⌜ result ≤ length (now parts) ⌝ }
+    ensures { λ r. ⌜ (r ≡ Agrees → HeadAgrees (now (head .entry)) (work-of (now (head .entry))) (now (parts .entry)) result) ⌝ }
 {
     let enough = number(head, 6, 4);
     let end = number(head, 34, 2) + BEHIND;

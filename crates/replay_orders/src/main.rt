@@ -17,6 +17,10 @@ use records::MOST_LONGEST;
 use records::WORK_FACTOR;
 use replays::Verdict;
 use replays::reads;
+ghost use mathlib.Core.Path.{_≡_};
+ghost use lib.ListN.{length};
+ghost use Rattle.replays.specs.declared.Verdict.the-variants.{Agrees};
+ghost use Rattle.replay_orders.specs.Orders.{case-from, HeadAgrees};
 
 // The bytes of a case before those written and the input.
 const HEAD: usize = 19;
@@ -28,7 +32,9 @@ const WORK: usize = WORK_FACTOR * MOST_LONGEST;
 const MOST_RESULT: usize = 255;
 
 // What a case gives and must get.
-fn case_of(head: &[u8; HEAD]) -> Case {
+fn case_of(head: &[u8; HEAD]) -> Case
+    ensures { λ r. ⌜ r ≡ case-from (now (head .entry)) ⌝ }
+{
     Case {
         f: number(head, 0, 2),
         counter: number(head, 2, 8) as u64,
@@ -40,7 +46,9 @@ fn case_of(head: &[u8; HEAD]) -> Case {
 }
 
 // Has the call answer a case, with a result buffer as long as the case says.
-fn judged(head: &[u8; HEAD], work: &mut [u8], wanted: &[u8], input: &[u8]) -> Verdict {
+fn judged(head: &[u8; HEAD], work: &mut [u8], wanted: &[u8], input: &[u8]) -> Verdict
+    ensures { λ r. ⌜ (r ≡ Agrees → HeadAgrees (now (head .entry)) (length (now (work .entry))) (now (wanted .entry)) (now (input .entry))) ⌝ }
+{
     let mut result = [0u8; MOST_RESULT];
     let n = number(head, 10, 1);
     replays::judged(agrees(case_of(head), work, input, wanted, &mut result[..n]))

@@ -4,7 +4,14 @@ use names::Refusal;
 use names::bytes::same;
 use ordering::call::order_call;
 use replays::fill;
+use replays::same_refusal;
 use replays::untouched;
+ghost use mathlib.Core.Path.{_≡_};
+ghost use lib.ListN.{length};
+ghost use Rattle.names.specs.Names.{Bytes};
+ghost use Rattle.ordering.specs.OrderCall.{Rounds};
+ghost use Rattle.replays.specs.Judging.{Decides};
+ghost use Rattle.replay_orders.specs.Orders.{AllHeld, BytesAgree, OrderAgrees, Somewhere, AgreesIn};
 
 // What a case gives the call beside its input, and the refusal that it must get.
 pub struct Case {
@@ -14,7 +21,9 @@ pub struct Case {
 }
 
 // Whether a byte stands in a list.
-fn holds(list: &[u8], byte: u8) -> bool {
+fn holds(list: &[u8], byte: u8) -> bool
+    ensures { λ r. ⌜ Decides r (Somewhere byte (now (list .entry))) ⌝ }
+{
     let mut i = 0;
     while i < list.len() {
         if list[i] == byte {
@@ -26,7 +35,9 @@ fn holds(list: &[u8], byte: u8) -> bool {
 }
 
 // Whether each byte of one list stands in another.
-fn all_held(list: &[u8], bytes: &[u8]) -> bool {
+fn all_held(list: &[u8], bytes: &[u8]) -> bool
+    ensures { λ r. ⌜ Decides r (AllHeld (now (bytes .entry)) (now (list .entry))) ⌝ }
+{
     let mut i = 0;
     while i < bytes.len() {
         if !holds(list, bytes[i]) {
@@ -39,7 +50,9 @@ fn all_held(list: &[u8], bytes: &[u8]) -> bool {
 
 // Whether the rounds are among those that are free: for an order of some bindings from 1 to their
 // number, else 0.
-fn free_rounds(a: Answer) -> bool {
+fn free_rounds(a: Answer) -> bool
+    ensures { λ r. ⌜ ((buffer : Bytes) → Decides r (Rounds (a, buffer))) ⌝ }
+{
     if a.refusal.number != 0 {
         return a.rounds == 0;
     }
@@ -49,28 +62,27 @@ fn free_rounds(a: Answer) -> bool {
     a.rounds >= 1 && a.rounds <= a.len as u64
 }
 
-// Whether two refusals are the same.
-fn same_refusal(a: Refusal, b: Refusal) -> bool {
-    a.number == b.number && a.place.start == b.place.start
-}
-
 // Whether refusal and counter are those of the case.
-fn same_head(c: Case, a: Answer) -> bool {
+fn same_head(c: Case, a: Answer) -> bool
+    ensures { λ r. ⌜ Decides r ((a .refusal ≡ c .refusal) × (a .counter ≡ c .counter)) ⌝ }
+{
     same_refusal(a.refusal, c.refusal) && a.counter == c.counter
 }
 
 // Whether the bytes written are the wanted ones: of a deadlock in any sequence.
-fn same_bytes(number: u32, got: &[u8], wanted: &[u8]) -> bool {
+fn same_bytes(number: u32, got: &[u8], wanted: &[u8]) -> bool
+    ensures { λ r. ⌜ Decides r (BytesAgree number (now (got .entry)) (now (wanted .entry))) ⌝ }
+{
     if number == 5 {
         return got.len() == wanted.len() && all_held(got, wanted);
     }
     same(got, wanted)
 }
 
-// Whether the call answers a case as it must.
-pub fn agrees(c: Case, work: &mut [u8], input: &[u8], wanted: &[u8], result: &mut [u8]) -> bool {
-    fill(result);
-    let a = order_call(c.f, work, c.counter, input, result);
+// Whether an answer and the buffer that it leaves are those of the case.
+fn same_result(c: Case, a: Answer, result: &[u8], wanted: &[u8]) -> bool
+    ensures { λ r. ⌜ Decides r (OrderAgrees c (now (wanted .entry)) (a, now (result .entry))) ⌝ }
+{
     let len = a.len;
     if len > result.len() {
         return false;
@@ -78,7 +90,20 @@ pub fn agrees(c: Case, work: &mut [u8], input: &[u8], wanted: &[u8], result: &mu
     if !same_head(c, a) {
         return false;
     }
-    free_rounds(a)
-        && untouched(&result[len..])
-        && same_bytes(a.refusal.number, &result[..len], wanted)
+    if !free_rounds(a) {
+        return false;
+    }
+    if !untouched(&result[len..]) {
+        return false;
+    }
+    same_bytes(a.refusal.number, &result[..len], wanted)
+}
+
+// Whether the call answers a case as it must.
+pub fn agrees(c: Case, work: &mut [u8], input: &[u8], wanted: &[u8], result: &mut [u8]) -> bool
+    ensures { λ r. ⌜ Decides r (AgreesIn c (now (work .entry)) (now (input .entry)) (now (wanted .entry)) (now (result .entry))) ⌝ }
+{
+    fill(result);
+    let a = order_call(c.f, work, c.counter, input, result);
+    same_result(c, a, result, wanted)
 }

@@ -5,30 +5,26 @@
 mod reader;
 
 use libc::STDIN_FILENO;
+use names::bytes::number;
 use reader::agrees;
 use replays::Verdict;
 use replays::reads;
-
-// The number of one byte.
-fn one(byte: u8) -> u32 {
-    byte as u32
-}
-
-// The number of two bytes.
-fn two(high: u8, low: u8) -> usize {
-    256 * high as usize + low as usize
-}
+ghost use mathlib.Core.Path.{_≡_};
+ghost use Rattle.replays.specs.declared.Verdict.the-variants.{Agrees};
+ghost use Rattle.replay_reads.specs.Reading.{ReadAgrees};
 
 // Reads the input of a case into a buffer of its length, and has the reader answer it.
-fn judged(head: &[u8; 8], input: &mut [u8]) -> Verdict {
+fn judged(head: &[u8; 8], input: &mut [u8]) -> Verdict
+    ensures { λ r. ⌜ (r ≡ Agrees → ReadAgrees (now (head .entry)) (now (input .exit))) ⌝ }
+{
     if !reads(input) {
         return Verdict::CutOff;
     }
     replays::judged(agrees(
-        head[0],
-        two(head[2], head[3]),
-        one(head[1]),
-        two(head[4], head[5]) as u64,
+        number(head, 0, 1) as u8,
+        number(head, 2, 2),
+        number(head, 1, 1) as u32,
+        number(head, 4, 2) as u64,
         input,
     ))
 }
@@ -43,7 +39,7 @@ fn next(buf: &mut [u8]) -> Verdict {
     if got < 8 {
         return Verdict::CutOff;
     }
-    let len = two(head[6], head[7]);
+    let len = number(&head, 6, 2);
     if len > buf.len() {
         return Verdict::CutOff;
     }

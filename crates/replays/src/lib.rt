@@ -1,7 +1,11 @@
-// What the programs that replay stored cases share: what came of a case and what is said of it, and
-// memory that is filled before a call.
+// What the programs that replay stored cases share: what came of a case and what is said of it,
+// memory that is filled before a call, and refusals compared.
 use libc::STDIN_FILENO;
 use libc::STDOUT_FILENO;
+use names::Refusal;
+ghost use mathlib.Core.Path.{_≡_};
+ghost use lib.ListN.{length};
+ghost use Rattle.replays.specs.Judging.{Decides, filling, judged-as, goes-further};
 
 // What memory is filled with.
 const FILL: u8 = 7;
@@ -21,7 +25,9 @@ pub fn reads(buf: &mut [u8]) -> bool {
 }
 
 // Agrees, or differs.
-pub fn judged(agrees: bool) -> Verdict {
+pub fn judged(agrees: bool) -> Verdict
+    ensures { λ r. ⌜ r ≡ judged-as agrees ⌝ }
+{
     if agrees {
         Verdict::Agrees
     } else {
@@ -46,7 +52,9 @@ fn all_agree(done: u64, kind: &[u8]) {
 }
 
 // Says what came of the case after `done` others of a kind, and answers whether to go on.
-pub fn goes_on(outcome: Verdict, done: u64, kind: &[u8]) -> bool {
+pub fn goes_on(outcome: Verdict, done: u64, kind: &[u8]) -> bool
+    ensures { λ r. ⌜ r ≡ goes-further outcome ⌝ }
+{
     match outcome {
         Verdict::Agrees => {
             return true;
@@ -60,7 +68,9 @@ pub fn goes_on(outcome: Verdict, done: u64, kind: &[u8]) -> bool {
 }
 
 // Fills memory.
-pub fn fill(mem: &mut [u8]) {
+pub fn fill(mem: &mut [u8])
+    ensures { λ _. ⌜ now (mem .exit) ≡ filling (length (now (mem .entry))) ⌝ }
+{
     let mut i = 0;
     while i < mem.len() {
         mem[i] = FILL;
@@ -69,7 +79,9 @@ pub fn fill(mem: &mut [u8]) {
 }
 
 // Whether no byte differs from what memory was filled with.
-pub fn untouched(rest: &[u8]) -> bool {
+pub fn untouched(rest: &[u8]) -> bool
+    ensures { λ r. ⌜ Decides r (now (rest .entry) ≡ filling (length (now (rest .entry)))) ⌝ }
+{
     let mut i = 0;
     while i < rest.len() {
         if rest[i] != FILL {
@@ -78,4 +90,11 @@ pub fn untouched(rest: &[u8]) -> bool {
         i += 1;
     }
     true
+}
+
+// Whether two refusals are the same.
+pub fn same_refusal(a: Refusal, b: Refusal) -> bool
+    ensures { λ r. ⌜ Decides r (a ≡ b) ⌝ }
+{
+    a.number == b.number && a.place.start == b.place.start
 }

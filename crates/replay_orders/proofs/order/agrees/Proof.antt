@@ -1,36 +1,35 @@
--- `replay_orders::order::agrees` is safe and ends. What is lent of a buffer is as long as asked for, since the buffer is not shorter.
--- Assumes nothing.
-use mathlib.Core.Path.{sym}
-use native.Mathlib.Omega.{arith}
-use lib.Seq.{length-take-le}
+-- `replay_orders::order::agrees` meets its contract. Assumes nothing.
 use borrow.Author.Needs.{needs}
+use lib.ListN.{length}
+use Rattle.ordering.proofs.call.order_call.Reads as order-call-reads
+use Rattle.replays.proofs.fill.Reads as fill-reads
+use Rattle.replay_orders.proofs.OrderLaws.{agrees-with}
+use Rattle.replay_orders.proofs.order.same_result.Reads as same-result-reads
 use Rattle.replay_orders.proofs.order.agrees.Statement.{statement}
 use Rattle.replay_orders.proofs.order.agrees.Tie as tie
+use Rattle.replay_orders.proofs.order.agrees.Reads as reads
+use Rattle.replay_orders.proofs.order.agrees.Lts as lts
+
+abbrev calls : lts.Claims
+calls = (fill-reads.Asked, fill-reads.Learnt, order-call-reads.Asked, order-call-reads.Learnt, same-result-reads.Asked, same-result-reads.Learnt)
+
+-- places: after the call, after memory is filled, and the start
+abbrev called : lts.After-same-result calls reads.Pre reads.Post → lts.After-order-call calls reads.Pre reads.Post
+called c = c .before .before .before .before .before .before
+
+abbrev filled : lts.After-order-call calls reads.Pre reads.Post → lts.After-fill calls reads.Pre reads.Post
+filled c = c .before .before .before .before .before
+
+abbrev begin : lts.After-fill calls reads.Pre reads.Post → lts.Start calls reads.Pre reads.Post
+begin c = c .before .before .before .before .before .before
+
+returns : tie.Need-returns
+returns c =
+    let s = begin (filled (called c)) .args in
+    agrees-with (s .c) (s .wanted .now) (s .input .now) (length (s .work .now)) (length (s .result .now))
+    (called c .order-call .ensures .0) (filled (called c) .fill .ensures) (c .same-result .ensures)
 
 pub agrees-spec : {M : Type 1} → statement M
 agrees-spec =
     tie.close
-    (tie.spec
-    (λ c κs. search needs)
-    (λ c κs. search needs)
-    (λ c. search needs)
-    (λ c. search needs)
-    (λ c. search needs)
-    (λ c κs. search needs)
-    (λ c. search needs)
-    (λ c. search needs)
-    (λ c. search needs)
-    (λ c κs. search needs)
-    (λ c. search needs)
-    (λ c. search needs)
-    (λ c. search needs)
-    (λ c κs. search needs)
-    (λ c. search needs)
-    (λ c. sym (length-take-le _ _ (omega arith)))
-    (λ c κs. search needs)
-    (λ c. search needs)
-    (λ c. search needs)
-    (λ c. search needs)
-    (λ c. search needs)
-    (λ c. search needs)
-    (λ c. search needs))
+    (tie.spec (λ c κs. search needs) (λ c κs. search needs) (λ c κs. search needs) (λ c. search needs) (λ c. search needs) returns)

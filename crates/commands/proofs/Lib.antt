@@ -1,0 +1,5 @@
+pub mod Counters
+pub mod Given
+pub mod Records
+pub mod Refusals
+pub mod Words

@@ -1,0 +1,57 @@
+-- `commands::order::names` is safe and ends: an assign stands in s, so its names can be listed. Assumes nothing.
+use borrow.Author.Needs.{needs}
+use mathlib.Core.Path.{refl, sym}
+use native.Mathlib.Omega.{arith}
+use Prim.Native.Nat.{_≤_}
+use lib.ListN.{length, take, replicate}
+use lib.Seq.{length-front, length-take-le}
+use Rattle.ordering.specs.Needs.{binding-limit}
+use Rattle.ordering.specs.Provisions.{Given}
+use Rattle.ordering.proofs.Bound.{let-bound, bound-of}
+use Rattle.ordering.proofs.Collected.{provisions-given}
+use Rattle.commands.proofs.order.names.Statement.{statement}
+use Rattle.commands.proofs.order.names.Tie as tie
+
+array-borrow-prefix-bodies : tie.Need-array-borrow-prefix-bodies
+array-borrow-prefix-bodies c = let-bound (c .before .before .let-view .ensures) (c .before .before .before .before .before .pre .1 .6) .1
+
+find-names-requires : tie.Need-find-names-requires
+find-names-requires c κs =
+    let w = let-bound (c .before .before .before .let-view .ensures) (c .before .before .before .before .before .before .pre .1 .6) in
+    let size = length-take-le _ _ (array-borrow-prefix-bodies (c .before)) in
+    ((c .before .before .before .before .before .before .pre .0, refl), (_, bound-of _ (sym size) (w .0)))
+
+-- what was listed
+listed : (c : tie.After-find-names) → (c .find-names .result ≤ length (c .find-names .last .1 .1 .0)) × Given (c .before .before .before .before .before .before .before .args .s .now) (take (c .find-names .result) (c .find-names .last .1 .1 .0))
+listed c =
+    let w = let-bound (c .before .before .before .before .let-view .ensures) (c .before .before .before .before .before .before .before .pre .1 .6) in
+    let size = length-take-le _ _ (array-borrow-prefix-bodies (c .before .before)) in
+    let f = c .find-names .ensures _ (bound-of _ (sym size) (w .0)) in
+    (f .few, provisions-given _ _ _ (f .provisions) (omega (arith, w .0 .count, w .1)))
+
+-- the places of the bodies stand at the front of their array
+slice-aggregate-print-stuck-2 : tie.Need-slice-aggregate-print-stuck-2
+slice-aggregate-print-stuck-2 c =
+    let g = c .before .before .before .before .before .find-names in
+    sym (length-front (replicate binding-limit 0) (g .last .1 .1 .1 .0) (c .before .before .before .before .before .before .before .before .before .let-view .result .count) (g .kept .1 .1 .1 .0))
+
+pub names-spec : {M : Type 1} → statement M
+names-spec =
+    tie.close
+    (tie.spec
+    (λ c κs. search needs)
+    (λ c. search needs)
+    (λ c. search needs)
+    array-borrow-prefix-bodies
+    (λ c. sym (length-take-le _ _ (array-borrow-prefix-bodies (c .before))))
+    find-names-requires
+    (λ c. listed (c .before .before .before) .0)
+    (λ c. sym (length-take-le _ _ (listed (c .before .before .before .before) .0)))
+    slice-aggregate-print-stuck-2
+    (λ c κs. search needs)
+    (λ c κs. listed (c .before .before .before .before .before .before) .1)
+    (λ c. listed (c .before .before .before) .0)
+    (λ c. sym (length-take-le _ _ (listed (c .before .before .before .before) .0)))
+    (λ c κs. search needs)
+    (λ c. search needs)
+    (λ c. search needs))

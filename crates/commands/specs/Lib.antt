@@ -1,0 +1,4 @@
+pub mod Counters
+pub mod Records
+pub mod Refusals
+pub mod Words

@@ -1,4 +1,0 @@
-pub mod Counters
-pub mod Given
-pub mod Records
-pub mod Words

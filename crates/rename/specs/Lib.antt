@@ -1,3 +1,0 @@
-pub mod Counters
-pub mod Records
-pub mod Words

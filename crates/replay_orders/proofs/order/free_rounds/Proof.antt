@@ -1,0 +1,31 @@
+-- `replay_orders::order::free_rounds` meets its contract. Assumes nothing.
+use native.Mathlib.Omega.{arith}
+use Rattle.replays.proofs.Deciding.{decides-by, decides-within}
+use Rattle.replay_orders.proofs.OrderLaws.{rounds-refused, rounds-none, rounds-some}
+use Rattle.replay_orders.proofs.order.free_rounds.Statement.{statement}
+use Rattle.replay_orders.proofs.order.free_rounds.Tie as tie
+
+returns : tie.Need-returns
+returns c buffer =
+    let a = c .before .before .before .args .a in
+    decides-by (a .rounds) 0 (rounds-refused a buffer (c .before .if1 .taken)) (λ r. r .none (c .before .if1 .taken))
+
+returns-2 : tie.Need-returns-2
+returns-2 c buffer =
+    let a = c .before .before .before .before .before .args .a in
+    decides-by (a .rounds) 0 (rounds-none a buffer (c .before .before .before .if1 .left) (c .before .if2 .taken)) (λ r. omega (arith, r .few))
+
+returns-3 : tie.Need-returns-3
+returns-3 c buffer =
+    let a = c .before .before .before .before .before .before .before .args .a in
+    let i = c .before .before .before in
+    decides-within (a .rounds) (a .len) (rounds-some a buffer (i .before .before .if1 .left) (c .before .if3 .taken)) (λ r. r .few)
+
+returns-4 : tie.Need-returns-4
+returns-4 c buffer =
+    let a = c .before .before .before .before .before .before .args .a in
+    let i = c .before .before in
+    decides-within 1 (a .rounds) (λ le. absurd (omega (arith, c .if3 .left))) (λ r. r .some (i .before .before .if1 .left) (omega (arith, i .if2 .left)))
+
+pub free-rounds-spec : {M : Type 1} → statement M
+free-rounds-spec = tie.close (tie.spec returns returns-2 returns-3 returns-4)
