@@ -21,16 +21,28 @@ calls = (case-of-reads.Asked, case-of-reads.Learnt, number-reads.Asked, number-r
 
 -- places: after the call's answer is tested, after the buffer's length is read, after the case is read, and the start
 abbrev tested : lts.After-judged calls reads.Pre reads.Post → lts.After-agrees calls reads.Pre reads.Post
-tested c = c .before .before .before .before .before
+tested c =
+    let back = c .before .before .before in
+    let there = back .before .before in
+    there
 
 abbrev lent : lts.After-agrees calls reads.Pre reads.Post → lts.After-number calls reads.Pre reads.Post
-lent c = c .before .before .before .before .before
+lent c =
+    let back = c .before .before .before in
+    let there = back .before .before in
+    there
 
 abbrev known : lts.After-number calls reads.Pre reads.Post → lts.After-case-of calls reads.Pre reads.Post
-known c = c .before .before .before .before
+known c =
+    let back = c .before .before .before in
+    let there = back .before in
+    there
 
 abbrev begin : lts.After-case-of calls reads.Pre reads.Post → lts.Start calls reads.Pre reads.Post
-begin c = c .before .before .before .before
+begin c =
+    let back = c .before .before .before in
+    let there = back .before in
+    there
 
 returns : tie.Need-returns
 returns c e = let z : _≡_ {A = ℕ} 0 1 = cc in absurd (omega arith)

@@ -19,13 +19,23 @@ calls = (number-reads.Asked, number-reads.Learnt, judged-reads.Asked, judged-rea
 
 -- places: after the case is judged, after the length of work memory is read, and the start
 abbrev tested : lts.After-slice-known4 calls reads.Pre reads.Post → lts.After-judged calls reads.Pre reads.Post
-tested c = c .before .before .before .before
+tested c =
+    let back = c .before .before .before in
+    let there = back .before in
+    there
 
 abbrev asked : lts.After-judged calls reads.Pre reads.Post → lts.After-number calls reads.Pre reads.Post
-asked c = c .before .before .before .before .before .before .before
+asked c =
+    let back = c .before .before .before in
+    let back-2 = back .before .before .before in
+    let there = back-2 .before in
+    there
 
 abbrev begin : lts.After-number calls reads.Pre reads.Post → lts.Start calls reads.Pre reads.Post
-begin c = c .before .before .before .before .before
+begin c =
+    let back = c .before .before .before in
+    let there = back .before .before in
+    there
 
 lent : tie.Need-slice-aggregate-judged
 lent c = sym (length-take-le _ _ (omega arith))

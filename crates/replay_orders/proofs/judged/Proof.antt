@@ -21,13 +21,19 @@ calls = (number-reads.Asked, number-reads.Learnt, case-of-reads.Asked, case-of-r
 
 -- places: after the call's answer is tested, after the case is read, and the start
 abbrev tested : lts.After-judged calls reads.Pre reads.Post → lts.After-agrees calls reads.Pre reads.Post
-tested c = c .before .before .before .before
+tested c =
+    let back = c .before .before .before in
+    let there = back .before in
+    there
 
 abbrev known : lts.After-agrees calls reads.Pre reads.Post → lts.After-case-of calls reads.Pre reads.Post
 known c = c .before .before .before
 
 abbrev begin : lts.After-case-of calls reads.Pre reads.Post → lts.Start calls reads.Pre reads.Post
-begin c = c .before .before .before .before .before .before
+begin c =
+    let back = c .before .before .before in
+    let there = back .before .before .before in
+    there
 
 -- what is lent of the array is as long as the case says
 lent : tie.Need-slice-aggregate-agrees

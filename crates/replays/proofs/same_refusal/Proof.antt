@@ -7,8 +7,10 @@ use Rattle.replays.proofs.same_refusal.Tie as tie
 
 returns : tie.Need-returns
 returns c =
-    let s = c .before .before .before .before .before .args in
-    decides-by (s .a .place .start) (s .b .place .start) (same-parts (c .before .before .if1 .taken)) (ap (λ (x : Refusal). x .place .start))
+    let at-if1 = c .before .before in
+    let at-start = at-if1 .before .before .before in
+    let s = at-start .args in
+    decides-by (s .a .place .start) (s .b .place .start) (same-parts (at-if1 .if1 .taken)) (ap (λ (x : Refusal). x .place .start))
 
 returns-2 : tie.Need-returns-2
 returns-2 c =

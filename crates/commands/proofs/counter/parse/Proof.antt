@@ -26,23 +26,38 @@ returns-3 c =
 
 returns-4 : tie.Need-returns-4 Inv-loop μ-loop
 returns-4 c =
-    let l = c .before .before .before .before .loop in
-    sym (l .inv .2 ∙ counter-high _ (l .n) (l .i) (omega arith) (c .before .if3 .left) (c .if4 .taken))
+    let at-if3 = c .before in
+    let at-loop = at-if3 .before .before .before in
+    let l = at-loop .loop in
+    sym (l .inv .2 ∙ counter-high _ (l .n) (l .i) (omega arith) (at-if3 .if3 .left) (c .if4 .taken))
 
 -- the bytes, the number with one more digit, and that the counter comes of it
 abbrev read : tie.Else4 Inv-loop μ-loop → Bytes
-read c = c .before .before .before .before .before .before .before .args .text .now
+read c =
+    let back = c .before .before .before in
+    let back-2 = back .before .before .before in
+    let at-start = back-2 .before in
+    at-start .args .text .now
 
 abbrev next : tie.Else4 Inv-loop μ-loop → ℕ
-next c = let l = c .before .before .before .before .loop in 10 * l .n + (getD (read c) (l .i) 0 - 48)
+next c =
+    let back = c .before .before .before in
+    let at-loop = back .before in
+    let l = at-loop .loop in 10 * l .n + (getD (read c) (l .i) 0 - 48)
 
 more : (c : tie.Else4 Inv-loop μ-loop) → counter-of (read c) ≡ counter-from (read c) (next c) (c .before .before .before .before .loop .i + 1)
 more c =
-    let l = c .before .before .before .before .loop in
-    l .inv .2 ∙ counter-more _ (l .n) (l .i) (omega arith) (c .before .if3 .left) (c .if4 .left)
+    let at-if3 = c .before in
+    let at-loop = at-if3 .before .before .before in
+    let l = at-loop .loop in
+    l .inv .2 ∙ counter-more _ (l .n) (l .i) (omega arith) (at-if3 .if3 .left) (c .if4 .left)
 
 returns-5 : tie.Need-returns-5 Inv-loop μ-loop
-returns-5 c = sym (more (c .before) ∙ counter-large (read (c .before)) (next (c .before)) (c .before .before .before .before .before .loop .i + 1) (omega arith))
+returns-5 c =
+    let there = c .before in
+    let back = there .before .before .before in
+    let at-loop = back .before in
+    sym (more there ∙ counter-large (read there) (next there) (at-loop .loop .i + 1) (omega arith))
 
 loop-again : tie.Need-loop-again Inv-loop μ-loop
 loop-again c = (omega arith, omega arith, more (c .before))

@@ -13,27 +13,40 @@ use Rattle.commands.proofs.order.names.Statement.{statement}
 use Rattle.commands.proofs.order.names.Tie as tie
 
 array-borrow-prefix-bodies : tie.Need-array-borrow-prefix-bodies
-array-borrow-prefix-bodies c = let-bound (c .before .before .let-view .ensures) (c .before .before .before .before .before .pre .1 .6) .1
+array-borrow-prefix-bodies c =
+    let at-let-view = c .before .before in
+    let at-start = at-let-view .before .before .before in
+    let-bound (at-let-view .let-view .ensures) (at-start .pre .1 .6) .1
 
 find-names-requires : tie.Need-find-names-requires
 find-names-requires c κs =
-    let w = let-bound (c .before .before .before .let-view .ensures) (c .before .before .before .before .before .before .pre .1 .6) in
-    let size = length-take-le _ _ (array-borrow-prefix-bodies (c .before)) in
-    ((c .before .before .before .before .before .before .pre .0, refl), (_, bound-of _ (sym size) (w .0)))
+    let there = c .before in
+    let at-let-view = there .before .before in
+    let at-start = at-let-view .before .before .before in
+    let w = let-bound (at-let-view .let-view .ensures) (at-start .pre .1 .6) in
+    let size = length-take-le _ _ (array-borrow-prefix-bodies there) in
+    ((at-start .pre .0, refl), (_, bound-of _ (sym size) (w .0)))
 
 -- what was listed
 listed : (c : tie.After-find-names) → (c .find-names .result ≤ length (c .find-names .last .1 .1 .0)) × Given (c .before .before .before .before .before .before .before .args .s .now) (take (c .find-names .result) (c .find-names .last .1 .1 .0))
 listed c =
-    let w = let-bound (c .before .before .before .before .let-view .ensures) (c .before .before .before .before .before .before .before .pre .1 .6) in
-    let size = length-take-le _ _ (array-borrow-prefix-bodies (c .before .before)) in
+    let there = c .before .before in
+    let at-let-view = there .before .before in
+    let at-start = at-let-view .before .before .before in
+    let w = let-bound (at-let-view .let-view .ensures) (at-start .pre .1 .6) in
+    let size = length-take-le _ _ (array-borrow-prefix-bodies there) in
     let f = c .find-names .ensures _ (bound-of _ (sym size) (w .0)) in
     (f .few, provisions-given _ _ _ (f .provisions) (omega (arith, w .0 .count, w .1)))
 
 -- the places of the bodies stand at the front of their array
 slice-aggregate-print-stuck-2 : tie.Need-slice-aggregate-print-stuck-2
 slice-aggregate-print-stuck-2 c =
-    let g = c .before .before .before .before .before .find-names in
-    sym (length-front (replicate binding-limit 0) (g .last .1 .1 .1 .0) (c .before .before .before .before .before .before .before .before .before .let-view .result .count) (g .kept .1 .1 .1 .0))
+    let back = c .before .before .before in
+    let at-find-names = back .before .before in
+    let back-2 = at-find-names .before .before .before in
+    let at-let-view = back-2 .before in
+    let g = at-find-names .find-names in
+    sym (length-front (replicate binding-limit 0) (g .last .1 .1 .1 .0) (at-let-view .let-view .result .count) (g .kept .1 .1 .1 .0))
 
 pub names-spec : {M : Type 1} → statement M
 names-spec =

@@ -30,7 +30,10 @@ text-requires-2 : tie.Need-text-requires-2
 text-requires-2 c κs = search needs
 
 array-share-prefix-out : tie.Need-array-share-prefix-out
-array-share-prefix-out c = c .before .before .before .before .before .text-of .ensures .0
+array-share-prefix-out c =
+    let back = c .before .before .before in
+    let at-text-of = back .before .before in
+    at-text-of .text-of .ensures .0
 
 slice-aggregate-text-3 : tie.Need-slice-aggregate-text-3
 slice-aggregate-text-3 c = sym (length-take-le _ _ (array-share-prefix-out (c .before)))

@@ -20,13 +20,23 @@ calls = (fill-reads.Asked, fill-reads.Learnt, answer-reads.Asked, answer-reads.L
 
 -- places: after the call, after memory is filled, and the start
 abbrev called : lts.After-same-result calls reads.Pre reads.Post → lts.After-answer calls reads.Pre reads.Post
-called c = c .before .before .before .before .before .before
+called c =
+    let back = c .before .before .before in
+    let there = back .before .before .before in
+    there
 
 abbrev filled : lts.After-answer calls reads.Pre reads.Post → lts.After-fill calls reads.Pre reads.Post
-filled c = c .before .before .before .before .before
+filled c =
+    let back = c .before .before .before in
+    let there = back .before .before in
+    there
 
 abbrev begin : lts.After-fill calls reads.Pre reads.Post → lts.Start calls reads.Pre reads.Post
-begin c = c .before .before .before .before .before .before .before
+begin c =
+    let back = c .before .before .before in
+    let back-2 = back .before .before .before in
+    let there = back-2 .before in
+    there
 
 returns-2 : tie.Need-returns-2
 returns-2 c =

@@ -8,19 +8,25 @@ use Rattle.replay_calls.proofs.calls.answer.Tie as tie
 
 returns : tie.Need-returns
 returns c =
-    let w = c .before .before .before .before in
+    let back = c .before .before .before in
+    let there = back .before in
+    let w = there in
     let m = w .before .before .before in
     w .whole-form .ensures .0 ∙ numbered-zero (m .before .before .before .before .args .c .call) _ _ _ _ _ (omega arith)
 
 returns-2 : tie.Need-returns-2
 returns-2 c =
-    let w = c .before .before .before .before in
+    let back = c .before .before .before in
+    let there = back .before in
+    let w = there in
     let m = w .before .before .before in
     w .children-only .ensures .0 ∙ numbered-one (m .before .before .before .before .args .c .call) _ _ _ _ _ (omega arith)
 
 returns-3 : tie.Need-returns-3
 returns-3 c =
-    let w = c .before .before .before .before in
+    let back = c .before .before .before in
+    let there = back .before in
+    let w = there in
     let m = w .before .before .before in
     let k = m .before .before .before .before .args .c .call in
     w .single-helper .ensures .0 ∙ numbered-more k _ _ _ _ _ (λ q. omega arith) (λ q. omega arith)

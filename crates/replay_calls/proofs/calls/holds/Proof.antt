@@ -16,8 +16,11 @@ returns c =
 
 returns-2 : tie.Need-returns-2
 returns-2 c =
-    let s = c .before .before .before .before .before .args in
-    let front = front-of (s .mem .now) (s .wanted .now) (c .before .is-word .ensures) in
+    let at-is-word = c .before in
+    let back = at-is-word .before .before .before in
+    let at-start = back .before in
+    let s = at-start .args in
+    let front = front-of (s .mem .now) (s .wanted .now) (at-is-word .is-word .ensures) in
     decides-no (λ e. fails-not (not-true _ (c .if2 .taken)) front (holds-front (s .mem .now) (s .wanted .now) e))
 
 returns-3 : tie.Need-returns-3

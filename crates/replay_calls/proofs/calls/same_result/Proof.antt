@@ -23,7 +23,10 @@ calls = (same-answer-reads.Asked, same-answer-reads.Learnt, holds-reads.Asked, h
 
 -- the start, from where the buffer was tested
 abbrev begin : lts.After-holds calls reads.Pre reads.Post → lts.Start calls reads.Pre reads.Post
-begin c = c .before .before .before .before .before .before
+begin c =
+    let back = c .before .before .before in
+    let there = back .before .before .before in
+    there
 
 returns-2 : tie.Need-returns-2
 returns-2 c =

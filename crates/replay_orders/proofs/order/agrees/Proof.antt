@@ -15,13 +15,22 @@ calls = (fill-reads.Asked, fill-reads.Learnt, order-call-reads.Asked, order-call
 
 -- places: after the call, after memory is filled, and the start
 abbrev called : lts.After-same-result calls reads.Pre reads.Post → lts.After-order-call calls reads.Pre reads.Post
-called c = c .before .before .before .before .before .before
+called c =
+    let back = c .before .before .before in
+    let there = back .before .before .before in
+    there
 
 abbrev filled : lts.After-order-call calls reads.Pre reads.Post → lts.After-fill calls reads.Pre reads.Post
-filled c = c .before .before .before .before .before
+filled c =
+    let back = c .before .before .before in
+    let there = back .before .before in
+    there
 
 abbrev begin : lts.After-fill calls reads.Pre reads.Post → lts.Start calls reads.Pre reads.Post
-begin c = c .before .before .before .before .before .before
+begin c =
+    let back = c .before .before .before in
+    let there = back .before .before .before in
+    there
 
 returns : tie.Need-returns
 returns c =

@@ -17,13 +17,17 @@ abbrev μ-loop : tie.MeasureT-loop
 
 returns : tie.Need-returns Inv-loop μ-loop
 returns c =
-    let l = c .before .before .before .before .loop in
-    decides-no (λ h. fails-not (not-true _ (c .if1 .taken)) (c .before .holds .ensures) (h (l .i) (omega arith)))
+    let at-holds = c .before in
+    let at-loop = at-holds .before .before .before in
+    let l = at-loop .loop in
+    decides-no (λ h. fails-not (not-true _ (c .if1 .taken)) (at-holds .holds .ensures) (h (l .i) (omega arith)))
 
 loop-again : tie.Need-loop-again Inv-loop μ-loop
 loop-again c =
-    let l = c .before .before .before .before in
-    held-next (l .before .before .before .args .list .now) (l .before .before .before .args .bytes .now) (l .loop .i) (l .loop .inv) (c .before .holds .ensures .only (not-false _ (c .if1 .left)))
+    let at-holds = c .before in
+    let there = at-holds .before .before .before in
+    let l = there in
+    held-next (l .before .before .before .args .list .now) (l .before .before .before .args .bytes .now) (l .loop .i) (l .loop .inv) (at-holds .holds .ensures .only (not-false _ (c .if1 .left)))
 
 returns-2 : tie.Need-returns-2 Inv-loop μ-loop
 returns-2 c = decides-yes (λ k lt. c .before .loop .inv k (omega arith))

@@ -16,13 +16,17 @@ returns c =
 
 returns-2 : tie.Need-returns-2
 returns-2 c =
-    let s = c .before .before .before .before .args in
-    decides-by (length (s .got .now)) (length (s .wanted .now)) (λ q. absurd (c .if2 .left q)) (λ b. b .stuck (c .before .if1 .taken) .many)
+    let at-if1 = c .before in
+    let at-start = at-if1 .before .before .before in
+    let s = at-start .args in
+    decides-by (length (s .got .now)) (length (s .wanted .now)) (λ q. absurd (c .if2 .left q)) (λ b. b .stuck (at-if1 .if1 .taken) .many)
 
 returns-3 : tie.Need-returns-3
 returns-3 c =
-    let s = c .before .before .before .before .args in
-    let other = c .before .if1 .left in
+    let at-if1 = c .before in
+    let at-start = at-if1 .before .before .before in
+    let s = at-start .args in
+    let other = at-if1 .if1 .left in
     rw (c .same .ensures)
     (decides-as (λ e. record { stuck = λ q. absurd (other q); exact = λ n. e }) (λ b. b .exact other) (decides-same (s .got .now) (s .wanted .now)))
 

@@ -5,8 +5,11 @@ use Rattle.replay_orders.proofs.order.same_head.Tie as tie
 
 returns : tie.Need-returns
 returns c =
-    let s = c .before .before .before .before .args in
-    let same = c .before .before .before .same-refusal .ensures .only (c .before .before .if1 .taken) in
+    let at-if1 = c .before .before in
+    let at-same-refusal = at-if1 .before in
+    let at-start = at-same-refusal .before in
+    let s = at-start .args in
+    let same = at-same-refusal .same-refusal .ensures .only (at-if1 .if1 .taken) in
     decides-by (s .a .counter) (s .c .counter) (λ q. (same, q)) (λ h. h .1)
 
 returns-2 : tie.Need-returns-2

@@ -31,7 +31,11 @@ counted c = c .before .before .before
 -- what the test of the bytes behind the result decides
 behind : (c : lts.After-untouched calls reads.Pre reads.Post) → let s = c .before .before .before .before .before .before .before .before .before .args in
     Decides (c .untouched .result) (drop (s .a .len) (s .result .now) ≡ filling (length (drop (s .a .len) (s .result .now))))
-behind c = let s = c .before .before .before .before .before .before .before .before .before .args in decides-rest (s .result .now) (s .a .len) (c .untouched .ensures)
+behind c =
+    let back = c .before .before .before in
+    let back-2 = back .before .before .before in
+    let at-start = back-2 .before .before .before in
+    let s = at-start .args in decides-rest (s .result .now) (s .a .len) (c .untouched .ensures)
 
 returns-5 : tie.Need-returns-5
 returns-5 c =

@@ -16,9 +16,12 @@ some c q r = ⊎-elim (λ h. eqb-false _ _ (h .1 .left) r) (λ h. h .left q) (c 
 
 returns : tie.Need-returns
 returns c =
-    let s = c .before .before .before .before .before .args in
-    let is = c .before .before .before .opening .given .1 in
-    decides-no (λ e. told-some (s .number) (s .place) is (c .before .if2 .taken) (eqb-true _ _ (c .if3 .taken)) e)
+    let at-if2 = c .before in
+    let at-opening = at-if2 .before .before in
+    let at-start = at-opening .before .before in
+    let s = at-start .args in
+    let is = at-opening .opening .given .1 in
+    decides-no (λ e. told-some (s .number) (s .place) is (at-if2 .if2 .taken) (eqb-true _ _ (c .if3 .taken)) e)
 
 returns-2 : tie.Need-returns-2
 returns-2 c =
