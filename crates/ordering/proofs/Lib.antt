@@ -5,7 +5,7 @@ pub mod Bound
 pub mod Collected
 mod EntryLaws
 mod Examples
-mod Few
+pub mod Few
 mod Lists
 pub mod Loop
 mod NeedLaws

@@ -1,24 +1,35 @@
--- `commands::waits::has_word` is safe and ends: the entry says a place in s. Assumes nothing.
+-- `commands::waits::has_word` meets its contract: the entry says a place in s, and there is room for what the body needs. Assumes nothing.
+use mathlib.Core.Path.{refl}
 use native.Mathlib.Omega.{arith}
-use Prim.Native.Nat.{_%_, _≤_}
-use lib.ListN.{length}
 use borrow.Author.Needs.{needs}
-use Rattle.ordering.specs.Provisions.{places}
 use Rattle.commands.proofs.Given.{given-one}
+use Rattle.commands.proofs.Waiting.{tells-word}
 use Rattle.commands.proofs.waits.has_word.Statement.{statement}
 use Rattle.commands.proofs.waits.has_word.Tie as tie
 
+-- no entry, or no body, stands there
+returns : tie.Need-returns
+returns c top b x v at e = absurd (omega (arith, at .fits, e .there .fits, e .ends))
+
+returns-2 : tie.Need-returns-2
+returns-2 c top b x v at e = absurd (omega (arith, at .fits, e .there .fits, e .ends))
+
+returns-3 : tie.Need-returns-3
+returns-3 c top b x v at e = absurd (omega (arith, at .fits, e .there .fits, e .ends))
+
 body-needs-requires : tie.Need-body-needs-requires
-body-needs-requires c κs =
-    let a = c .before .before .before .before .before .before .before .args in
-    let fits : a .entry % places ≤ length (a .s .now) = search needs in
-    (given-one (a .entry) (omega arith) fits, omega arith)
+body-needs-requires c κs = (given-one _ (omega arith) (omega arith), omega arith)
+
+returns-4 : tie.Need-returns-4
+returns-4 c = tells-word (c .before .before .body-needs .ensures) refl
 
 pub has-word-spec : {M : Type 1} → statement M
 has-word-spec =
     tie.close
     (tie.spec
-    (λ c. search needs)
+    returns
+    returns-2
+    returns-3
     (λ c. search needs)
     (λ c. search needs)
     (λ c. search needs)
@@ -26,4 +37,4 @@ has-word-spec =
     (λ c. search needs)
     (λ c. search needs)
     body-needs-requires
-    (λ c. search needs))
+    returns-4)

@@ -1,4 +1,4 @@
--- `commands::waits::missing` is safe and ends: entries say places in s. Assumes nothing.
+-- `commands::waits::missing` meets its contract: entries say places in s. Assumes nothing.
 use borrow.Author.Needs.{needs}
 use mathlib.Core.Path.{sym}
 use native.Mathlib.Omega.{arith}
@@ -7,6 +7,7 @@ use lib.ListN.{length, getD}
 use lib.Seq.{length-take-le}
 use Rattle.ordering.specs.Provisions.{places}
 use Rattle.commands.proofs.Given.{given-take}
+use Rattle.commands.proofs.Waiting.{missing-not, missing-first}
 use Rattle.commands.proofs.waits.missing.Statement.{statement}
 use Rattle.commands.proofs.waits.missing.Tie as tie
 
@@ -40,6 +41,14 @@ providers-requires-2 c κs =
     let s = c .before .before .before .before .before .before .before .before .before in
     given-take (s .args .k) (omega arith) (s .pre .0)
 
+returns : tie.Need-returns
+returns c =
+    let tested = c .before .before .before in
+    missing-first (tested .before .providers .ensures) (tested .if1 .taken) (c .providers2 .ensures)
+
+returns-2 : tie.Need-returns-2
+returns-2 c = missing-not (c .before .providers .ensures) (c .if1 .left)
+
 pub missing-spec : {M : Type 1} → statement M
 missing-spec =
     tie.close
@@ -57,5 +66,5 @@ missing-spec =
     part-providers-start-2
     part-providers-end-2
     providers-requires-2
-    (λ c. search needs)
-    (λ c. search needs))
+    returns
+    returns-2)
