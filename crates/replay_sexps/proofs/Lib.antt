@@ -1,1 +1,2 @@
 pub mod CaseLaws
+pub mod Comparing

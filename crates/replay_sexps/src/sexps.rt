@@ -2,6 +2,7 @@
 use names::Refusal;
 use names::bytes::is_word;
 use names::bytes::put;
+use names::refusals::placeless;
 use records::CONS_LIMIT;
 use records::MOST_LONGEST;
 use records::Opening;
@@ -13,6 +14,7 @@ use records::helpers::form_view;
 use records::input::open_input;
 use records::record::body_mark;
 use replays::fill;
+use replays::same_refusal;
 use replays::untouched;
 use walk::Growth;
 use walk::Invented;
@@ -21,13 +23,17 @@ use walk::invent::invent_new_names_sexp;
 use walk::substitute::rename_atom;
 use walk::substitute::rename_in_cons;
 use walk::substitute::rename_in_qq;
+ghost use mathlib.Core.Bool.{true};
+ghost use mathlib.Core.Path.{_≡_};
 ghost use Prim.Native.Nat.{_+_, _*_, _≤_};
 ghost use lib.ListN.{length};
 ghost use Rattle.names.specs.Maps.{NameMap};
+ghost use Rattle.names.specs.Refusals.{placeless};
 ghost use Rattle.names.specs.Segments.{At};
 ghost use Rattle.records.specs.Records.{Sexp, Form, sexp-bytes};
-ghost use Rattle.replay_sexps.specs.Cases.{Taken, FormIn, SexpsIn, Ready};
-ghost use Rattle.walk.specs.Arena.{Asks, Held};
+ghost use Rattle.replays.specs.Judging.{Decides};
+ghost use Rattle.replay_sexps.specs.Cases.{Taken, FormIn, SexpsIn, Ready, Holds, due-step, DueGrowth, numbered-rule, Renamed};
+ghost use Rattle.walk.specs.Arena.{Asks, Held, Substitutes};
 
 // The length of work memory that is enough for every F.
 const WORK: usize = WORK_FACTOR * MOST_LONGEST;
@@ -68,7 +74,9 @@ fn load(mem: &mut [u8], input: &[u8])
 
 // Whether memory holds what it must: the input at its front, what it was filled with from a place up
 // to the map, and the map at its end.
-fn holds(mem: &[u8], input: &[u8], from: usize, map: &[u8]) -> bool {
+fn holds(mem: &[u8], input: &[u8], from: usize, map: &[u8]) -> bool
+    ensures { λ r. ⌜ Decides r (Holds (now (mem .entry)) (now (input .entry)) from (now (map .entry))) ⌝ }
+{
     if map.len() > mem.len() {
         return false;
     }
@@ -76,21 +84,53 @@ fn holds(mem: &[u8], input: &[u8], from: usize, map: &[u8]) -> bool {
     if from > top {
         return false;
     }
-    is_word(mem, 0, input) && untouched(&mem[from..top]) && is_word(mem, top, map)
+    if !is_word(mem, 0, input) {
+        return false;
+    }
+    if !is_word(mem, top, map) {
+        return false;
+    }
+    untouched(&mem[from..top])
+}
+
+// Whether it is refused with a number, and no place.
+fn refused_as(number: u32, refusal: Refusal) -> bool
+    ensures { λ r. ⌜ Decides r (refusal ≡ placeless number) ⌝ }
+{
+    same_refusal(refusal, placeless(number))
 }
 
 // Whether a step answers as it must: it read and wrote so many bytes and left the counter, or it is
 // refused.
-fn same_step(number: u32, read: usize, wrote: usize, counter: u64, step: Step) -> bool {
+fn same_step(number: u32, read: usize, wrote: usize, counter: u64, step: Step) -> bool
+    ensures { λ r. ⌜ Decides r (step ≡ due-step number read wrote counter) ⌝ }
+{
     match step {
-        Step::Done(r, w, c) => number == 0 && r == read && w == wrote && c == counter,
-        Step::Refused(refusal) => refusal.number == number && refusal.place.start == 0,
+        Step::Done(r, w, c) => {
+            if number != 0 {
+                return false;
+            }
+            if r != read {
+                return false;
+            }
+            if w != wrote {
+                return false;
+            }
+            c == counter
+        }
+        Step::Refused(refusal) => {
+            if number == 0 {
+                return false;
+            }
+            refused_as(number, refusal)
+        }
     }
 }
 
 // Substitutes the S record at the start of memory by the rule of a case.
 fn substitute(rule: u8, mem: &mut [u8], task: Task) -> Step
     requires { ⌜ Asks sexp-bytes (Held (task .depth)) (now mem) task ⌝ }
+    ensures { λ r. ⌜ Substitutes (numbered-rule rule) (now (mem .entry)) (now (mem .exit)) task r ⌝ }
 {
     match rule {
         0 => rename_in_cons(mem, task, false),
@@ -111,6 +151,7 @@ fn renames(
     wanted: &[u8],
 ) -> bool
     requires { ⌜ ((t : Sexp) × (m : NameMap) × Ready (now mem) (length (now input)) target len (c .room) t m) ⌝ }
+    ensures { λ r. ⌜ (r ≡ true → Renamed c (now (mem .entry)) (length (now (input .entry))) target len (now (wanted .entry))) ⌝ }
 {
     let n = input.len();
     let free = n - target;
@@ -122,24 +163,30 @@ fn renames(
         counter: c.after,
     };
     let step = substitute(c.rule, &mut mem[target..], task);
-    same_step(c.substituted, free, wanted.len(), c.after, step)
-        && is_word(mem, n, wanted)
-        && holds(mem, input, n + c.room, map)
+    if !same_step(c.substituted, free, wanted.len(), c.after, step) {
+        return false;
+    }
+    if !is_word(mem, n, wanted) {
+        return false;
+    }
+    holds(mem, input, n + c.room, map)
 }
 
 // Whether Invent answers as it must, where it is not refused: the counter, the length of the
 // pattern, which ends one byte before the body, and the length of the map.
-fn same_draw(counter: u64, at: Places, len: usize, drawn: Growth) -> bool {
+fn same_draw(counter: u64, at: Places, len: usize, drawn: Growth) -> bool
+    ensures { λ r. ⌜ Decides r (DueGrowth counter (at .pattern) (at .body) len drawn) ⌝ }
+{
     if at.body <= at.pattern {
         return false;
     }
-    drawn.counter == counter && drawn.end == at.body - at.pattern - 1 && drawn.len == len
-}
-
-// Whether it is refused as it must be.
-fn same_refusal(number: u32, refusal: Refusal) -> bool {
-    let place = refusal.place;
-    refusal.number == number && place.start == 0
+    if drawn.counter != counter {
+        return false;
+    }
+    if drawn.end != at.body - at.pattern - 1 {
+        return false;
+    }
+    drawn.len == len
 }
 
 // Whether both calls answer as they must.
@@ -151,7 +198,7 @@ fn draws(c: Case, mem: &mut [u8], input: &[u8], at: Places, map: &[u8], wanted: 
     load(mem, input);
     let pattern = at.pattern;
     match invent_new_names_sexp(&mut mem[pattern..], 0, c.counter, CONS_LIMIT) {
-        Invented::Refused(r) => same_refusal(c.invented, r) && is_word(mem, 0, input),
+        Invented::Refused(r) => refused_as(c.invented, r) && is_word(mem, 0, input),
         Invented::Drawn(g) => {
             if c.invented != 0 {
                 return false;

@@ -1,7 +1,12 @@
--- `replay_sexps::sexps::renames` is safe and ends: the S record, its room and the map stand in what is lent of memory. Assumes nothing.
-use native.Mathlib.Omega.{arith}
+-- `replay_sexps::sexps::renames` meets its contract: the S record, its room and the map stand in what is lent of memory. Assumes nothing.
 use borrow.Author.Needs.{needs}
-use Rattle.walk.proofs.OnParts.{asks-part}
+use borrow.Author.Tests.{not-false}
+use mathlib.Core.Path.{_≡_}
+use native.Mathlib.Omega.{arith}
+use Prim.Native.Nat.{ℕ}
+use lib.ListN.{length}
+use Rattle.walk.proofs.OnParts.{asks-part, part-gives}
+use Rattle.replay_sexps.proofs.Comparing.{told, word-there}
 use Rattle.replay_sexps.proofs.sexps.renames.Statement.{statement}
 use Rattle.replay_sexps.proofs.sexps.renames.Tie as tie
 
@@ -10,6 +15,18 @@ substitute-requires c κs =
     let s = c .before .before .before .before .before in
     let r = s .pre .2 in
     asks-part (s .args .target) (s .pre .0) (record { fields = r .valid .0; conses = r .valid .1 }) (r .there) (omega (arith, r .within)) (r .map) (omega (arith, r .within, r .fits))
+
+returns-3 : tie.Need-returns-3
+returns-3 c e t m r =
+    let two = c .before .before .before in
+    let one = two .before .before .before in
+    let sub = one .before .before .before .before in
+    let s = sub .before .before .before .before .before .before .args in
+    let step = one .before .same-step .ensures .only (not-false _ (one .if1 .left)) in
+    let wrote = word-there _ _ (two .before .is-word .ensures) (not-false _ (two .if2 .left)) in
+    told (s .c .substituted) _ (s .c .after) (length (s .input .now)) (s .wanted .now) _
+    (part-gives (s .target) (omega (arith, r .within, r .fits)) (sub .substitute .ensures) (length (s .input .now)) (omega (arith, r .within)) (r .map) t (r .there) (omega (arith, r .within)) (r .valid .0))
+    step wrote
 
 pub renames-spec : {M : Type 1} → statement M
 renames-spec =
@@ -21,10 +38,12 @@ renames-spec =
     (λ c. search needs)
     substitute-requires
     (λ c κs. search needs)
+    (λ c. search needs)
+    (λ c e. let z : _≡_ {A = ℕ} 0 1 = cc in absurd (omega arith))
     (λ c κs. search needs)
     (λ c. search needs)
+    (λ c e. let z : _≡_ {A = ℕ} 0 1 = cc in absurd (omega arith))
+    (λ c. search needs)
     (λ c κs. search needs)
     (λ c. search needs)
-    (λ c. search needs)
-    (λ c. search needs)
-    (λ c. search needs))
+    returns-3)
