@@ -20,12 +20,15 @@ returns-3 : tie.Need-returns-3
 returns-3 c e t m r =
     let two = c .before .before .before in
     let one = two .before .before .before in
-    let sub = one .before .before .before .before in
-    let s = sub .before .before .before .before .before .before .args in
-    let step = one .before .same-step .ensures .only (not-false _ (one .if1 .left)) in
+    let told-step = one .before in
+    let sub = told-step .before .before .before in
+    let lent = sub .before .before .before in
+    let s = lent .before .before .before .args in
+    let step = told-step .same-step .ensures .only (not-false _ (one .if1 .left)) in
     let wrote = word-there _ _ (two .before .is-word .ensures) (not-false _ (two .if2 .left)) in
     told (s .c .substituted) _ (s .c .after) (length (s .input .now)) (s .wanted .now) _
-    (part-gives (s .target) (omega (arith, r .within, r .fits)) (sub .substitute .ensures) (length (s .input .now)) (omega (arith, r .within)) (r .map) t (r .there) (omega (arith, r .within)) (r .valid .0))
+    (part-gives (s .target) (omega (arith, r .within, r .fits)) (sub .substitute .ensures) (length (s .input .now)) (omega (arith, r .within)) (r .map) t (r .there)
+    (omega (arith, r .within)) (r .valid .0))
     step wrote
 
 pub renames-spec : {M : Type 1} → statement M
