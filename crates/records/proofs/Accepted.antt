@@ -9,7 +9,8 @@ use lib.ListN.{length}
 use Rattle.names.specs.Names.{Bytes}
 use Rattle.records.specs.Limits.{level-limit}
 use Rattle.records.specs.Records.{body-bytes, helper-bytes, form-bytes}
-use Rattle.records.specs.Read.{Plain, Reader, Whole, whole, readers, assign-of, read-whole}
+use Rattle.records.specs.Read.{Plain, Whole, whole, readers, assign-of, read-whole}
+use Rattle.records.specs.ReadFields.{Reader}
 use Rattle.records.specs.Opened.{opened, limits, no-mod, open-input}
 use Rattle.records.specs.Valid.{AreBytes, ValidForm, ValidHelper, ValidAssign, NoMod, HelperNoMod, FormNoMod}
 use Rattle.records.proofs.FirstMods.{body-first, helper-first, form-first}

@@ -11,7 +11,8 @@ use Rattle.names.proofs.Same.{same→eq}
 use Rattle.records.specs.Records.{mark-width}
 use Rattle.records.specs.declared.Scan.{Scan}
 use Rattle.records.specs.Limits.{level-limit}
-use Rattle.records.specs.Read.{Context, malformed, fault-number, bytes, check, choose, kind-of, assign-of}
+use Rattle.records.specs.Read.{Context, kind-of, assign-of}
+use Rattle.records.specs.ReadFields.{malformed, fault-number, bytes, check, choose}
 use Rattle.records.specs.Scan.{refused-scan, let-of-kind, below, Comes, Reads, Goes}
 use Rattle.records.proofs.Exact.{exact-next}
 use Rattle.records.proofs.Scans.{comes-of}

@@ -10,7 +10,8 @@ use Rattle.names.specs.Refusals.{place-at}
 use Rattle.records.specs.declared.Family.the-variants.{Body as a-body, Binding as a-binding, Helper as a-helper, Form as a-form}
 use Rattle.records.specs.declared.Scan.{Scan}
 use Rattle.records.specs.Records.{mark-width, Body, BQ, BV, Helper, Form, Sexp, SN, Binding}
-use Rattle.records.specs.Read.{Context, Reader, Readers, refuse, over-limit, bytes, deeper, choose, marked, quoted-after, body-kinds, helper-kinds, body-rule, helper-rule, form-rule, form-after, binding, binding-after, rules, readers, sexp, sexp-at, let-after, call-after, mod-after, constant-after, macro-after, function-after, namespace-after, reference-after}
+use Rattle.records.specs.Read.{Context, Readers, quoted-after, body-kinds, helper-kinds, body-rule, helper-rule, form-rule, form-after, binding, binding-after, rules, readers, sexp, sexp-at, let-after, call-after, mod-after, constant-after, macro-after, function-after, namespace-after, reference-after}
+use Rattle.records.specs.ReadFields.{Reader, refuse, over-limit, bytes, deeper, choose, marked}
 use Rattle.records.specs.Scan.{mark-index, body-marks, helper-marks, reader-of, body-after, helper-after, refused-scan, below, Comes, Reads, Goes, lambda-within}
 use Rattle.records.proofs.Scans.{comes-of, one-place, reads-enough, comes-bind, comes-ret}
 use Rattle.records.proofs.RecordLaws.{index-mark, index-none, comes-marked, comes-unmarked, index-bound}

@@ -8,7 +8,8 @@ use Rattle.names.specs.Names.{Bytes}
 use Rattle.names.specs.Refusals.{place-at}
 use Rattle.records.specs.declared.Scan.{Scan}
 use Rattle.records.specs.Records.{Kind, Assign}
-use Rattle.records.specs.Read.{Zone, Plain, InBinding, InMod, Context, Input, refused, Reader, over-limit, fault-number, deeper, in-lambda, in-zone, in-bindings, kind-of, more-levels, binding-zone, note, noted}
+use Rattle.records.specs.Read.{Zone, Plain, InBinding, InMod, Context, in-bindings, kind-of, more-levels, binding-zone, note, noted}
+use Rattle.records.specs.ReadFields.{Input, refused, Reader, over-limit, fault-number, deeper, in-lambda, in-zone}
 use Rattle.records.specs.Scan.{mod-number, mod-offset, scan-of, input-at, refused-scan, below, below-lambda, in-zone-of, Comes}
 use Rattle.records.proofs.Scans.{scan, by-number, going, staying, number-back}
 

@@ -15,7 +15,8 @@ use Rattle.records.specs.Depth.{levels, depth, bodies-depth, tail-depth,
 use Rattle.records.proofs.Readers.{Any, not-done, same-value, T-of, reads-whole}
 use Rattle.records.proofs.Exact.{bindings-counted}
 use Rattle.records.specs.Limits.{level-limit}
-use Rattle.records.specs.Read.{Zone, Context, Input, Fault, malformed, over-limit, Read, done, refused, Reader, _>>=_, _>>_, ret, refuse, check, times, deeper, in-lambda, in-zone, in-bindings, bytes, choose, marked, kind-of, more-levels, binding, let-of, tail-after, call-tail, Readers, body-rule, helper-rule, form-rule, rules, readers, assign-of, whole, read-whole}
+use Rattle.records.specs.Read.{Zone, Context, in-bindings, kind-of, more-levels, binding, let-of, tail-after, call-tail, Readers, body-rule, helper-rule, form-rule, rules, readers, assign-of, whole, read-whole}
+use Rattle.records.specs.ReadFields.{Input, Fault, malformed, over-limit, Read, done, refused, Reader, _>>=_, _>>_, ret, refuse, check, times, deeper, in-lambda, in-zone, bytes, choose, marked}
 
 -- in a context with room n each result has P
 pub record Gives {A : Type 0} (n : ℕ) (P : A → Type 0) (m : Reader A) : Type 0 where

@@ -17,7 +17,8 @@ use Rattle.records.specs.Lists.{joined}
 use Rattle.records.specs.Limits.{level-limit, cons-limit, count-limit}
 use Rattle.records.proofs.Readers.{Any, not-done, same-value, same-input, T-of, reads-whole}
 use Rattle.records.specs.Records.{mark-width, byte, loc-width, raw-width, integer-field, Sexp, SN, SC, SI, SQ, SA, sexp-bytes, record-bytes, Kind, Assign, kind-field, Name, Complex, pattern-field, Body, BL, BQ, BV, BC, BM, BF, body-bytes, bodies-bytes, tail-bytes, no-tail, tail, Binding, BB, binding-bytes, bindings-bytes, Helper, HC, HM, HD, HN, HR, helper-bytes, helpers-bytes, Form, CF, form-bytes, to-bodies, to-bindings, to-helpers, bodies-count, bindings-count, helpers-count}
-use Rattle.records.specs.Read.{Zone, Context, Input, Fault, malformed, over-limit, Read, done, refused, Reader, _>>=_, ret, refuse, check, times, deeper, in-lambda, in-zone, next, bytes, choose, marked, loc, counted, name, raw-field, integer, at-most, up-to, with-loc, optional-loc, keyword, hint, count, shortest, sexp-rule, cons-rule, sexp-at, sexp, _>>_, note, Readers, kind-of, more-levels, in-bindings, pattern-after, pattern-of, binding, let-of, tail-after, call-tail, body-rule, helper-rule, form-rule, rules, readers, assign-of, whole, read-whole}
+use Rattle.records.specs.Read.{Zone, Context, sexp-rule, cons-rule, sexp-at, sexp, note, Readers, kind-of, more-levels, in-bindings, pattern-after, pattern-of, binding, let-of, tail-after, call-tail, body-rule, helper-rule, form-rule, rules, readers, assign-of, whole, read-whole}
+use Rattle.records.specs.ReadFields.{Input, Fault, malformed, over-limit, Read, done, refused, Reader, _>>=_, ret, refuse, check, times, deeper, in-lambda, in-zone, next, bytes, choose, marked, loc, counted, name, raw-field, integer, at-most, up-to, with-loc, optional-loc, keyword, hint, count, shortest, _>>_}
 
 -- from i, after the bytes `pre` of the same record, to j stands what f writes of a; a has P; the offset has gone on by what was taken
 abbrev pub Taken : {A : Type 0} → (A → Type 0) → (A → Bytes) → Bytes → Input → A → Input → Type 0

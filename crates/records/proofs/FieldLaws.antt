@@ -12,7 +12,8 @@ use Rattle.names.specs.Names.{Bytes, number-of, number-field}
 use Rattle.names.specs.Refusals.{place-at}
 use Rattle.records.specs.declared.Scan.{Scan}
 use Rattle.records.specs.Records.{byte, integer-width}
-use Rattle.records.specs.Read.{Context, Input, Read, done, refused, Fault, malformed, fault-number, Plain, Reader, _>>=_, ret, check, times, next, bytes, counted, at-most, loc, with-loc, optional-loc, integer, shortest}
+use Rattle.records.specs.Read.{Context, Plain}
+use Rattle.records.specs.ReadFields.{Input, Read, done, refused, Fault, malformed, fault-number, Reader, _>>=_, ret, check, times, next, bytes, counted, at-most, loc, with-loc, optional-loc, integer, shortest}
 use Rattle.records.specs.Scan.{scan-of, input-at, goes-on, refused-scan, Reads}
 use Rattle.records.proofs.Exact.{Exact, exact-bytes, exact-next, exact-up-to, exact-loc, exact-counted}
 use Rattle.records.proofs.Scans.{by-number, going, staying, comes-of, reads-then, reads-bind, reads-ret, reads-stop, Took, took}

@@ -10,7 +10,8 @@ use Rattle.records.specs.declared.Family.{Family}
 use Rattle.records.specs.declared.Family.the-variants.{Body as a-body, Binding as a-binding, Helper as a-helper, Form as a-form}
 use Rattle.records.specs.declared.Scan.{Scan}
 use Rattle.records.specs.Records.{SN, Name, BV, BB, HR, []ʰ, CF, byte, body-bytes, binding-bytes, helper-bytes, form-bytes}
-use Rattle.records.specs.Read.{Context, Reader, _>>=_, times, count, binding, body-rule, helper-rule, form-rule, rules, readers}
+use Rattle.records.specs.Read.{Context, binding, body-rule, helper-rule, form-rule, rules, readers}
+use Rattle.records.specs.ReadFields.{Reader, _>>=_, times, count}
 use Rattle.records.specs.Scan.{AnyReader, reader-of, times-of, many-of, Comes, Reads, Goes}
 use Rattle.records.proofs.Readers.{Any}
 use Rattle.records.proofs.Exact.{Exact, exact-readers, exact-binding, exact-count, exact-times}

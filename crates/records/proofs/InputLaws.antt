@@ -21,7 +21,8 @@ use Rattle.records.specs.declared.Scan.{Scan}
 use Rattle.records.specs.Limits.{level-limit, least-longest, most-longest, work-factor}
 use Rattle.records.specs.Records.{body-bytes, helper-bytes, form-bytes}
 use Rattle.records.specs.Opened.{closed, limits, no-mod, open-input}
-use Rattle.records.specs.Read.{Input, Read, done, refused, Fault, fault-number, Reader, whole, unread, left-over, outermost, from-first, read-whole}
+use Rattle.records.specs.Read.{whole, unread, left-over, outermost, from-first, read-whole}
+use Rattle.records.specs.ReadFields.{Input, Read, done, refused, Fault, fault-number, Reader}
 use Rattle.records.specs.Scan.{mod-number, mod-offset, scan-of, input-at, first-scan, opening-of, wanted-reader, Comes}
 use Rattle.records.proofs.Readers.{Any}
 use Rattle.records.proofs.Exact.{Exact, exact-readers, exact-assign-of}

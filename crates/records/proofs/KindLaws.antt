@@ -11,7 +11,8 @@ use Rattle.records.specs.declared.Family.the-variants.{Body as a-body, B
 use Rattle.records.specs.declared.Scan.{Scan}
 use Rattle.records.specs.Limits.{cons-limit}
 use Rattle.records.specs.Records.{SN, Name, BL, BV, BC, BM, BF, no-tail, tail, Binding, BB, HC, HM, HD, HN, HR, Form, CF, []ʰ, byte, to-bodies, to-bindings, to-helpers}
-use Rattle.records.specs.Read.{InMod, Context, Read, done, refused, Reader, malformed, _>>=_, _>>_, ret, times, deeper, in-bindings, loc, name, raw-field, keyword, hint, count, at-most, sexp, sexp-at, note, kind-of, more-levels, binding-zone, pattern-of, binding, binding-after, let-of, let-after, tail-after, call-tail, call-after, mod-after, lambda-after, constant-after, macro-after, function-after, namespace-after, reference-after, form-after, readers}
+use Rattle.records.specs.Read.{InMod, Context, in-bindings, sexp, sexp-at, note, kind-of, more-levels, binding-zone, pattern-of, binding, binding-after, let-of, let-after, tail-after, call-tail, call-after, mod-after, lambda-after, constant-after, macro-after, function-after, namespace-after, reference-after, form-after, readers}
+use Rattle.records.specs.ReadFields.{Read, done, refused, Reader, malformed, _>>=_, _>>_, ret, times, deeper, loc, name, raw-field, keyword, hint, count, at-most}
 use Rattle.records.specs.Scan.{scan-of, input-at, reader-of, times-of, many-of, body-after, lambda-within, helper-after, let-of-kind, tail-of, below, below-lambda, in-zone-of, refused-scan, Comes, Reads, Goes}
 use Rattle.records.proofs.Readers.{Any}
 use Rattle.records.specs.Lists.{joined}

@@ -15,7 +15,8 @@ use Rattle.names.proofs.Places.{at-left}
 use Rattle.records.specs.Limits.{level-limit}
 use Rattle.records.specs.Mods.{Node, body-node, helper-node, form-node, node-bytes, AssignMod, FirstMod, NoAssignMod}
 use Rattle.records.specs.Opened.{opened, closed, limits, no-mod, open-input}
-use Rattle.records.specs.Read.{Plain, Reader, whole, readers, assign-of, read-whole}
+use Rattle.records.specs.Read.{Plain, whole, readers, assign-of, read-whole}
+use Rattle.records.specs.ReadFields.{Reader}
 use Rattle.records.specs.Records.{record-bytes, Body, body-bytes, Helper, helper-bytes, Form, form-bytes}
 use Rattle.records.specs.Valid.{AreBytes, ValidForm, ValidHelper, ValidAssign}
 use Rattle.records.proofs.Accepted.{Format, same-first, form-format, helper-format, assign-format}

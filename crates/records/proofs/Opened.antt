@@ -14,7 +14,8 @@ use Rattle.names.proofs.Same.{T-left, T-right}
 use Rattle.records.specs.Opened.{Opened, opened, closed, limits, no-mod, open-input}
 use Rattle.records.proofs.Readers.{T-of}
 use Rattle.records.specs.Limits.{least-longest, most-longest, work-factor}
-use Rattle.records.specs.Read.{Reader, Whole, whole, unread, malformed, over-limit, fault-number, read-whole}
+use Rattle.records.specs.Read.{Whole, whole, unread, read-whole}
+use Rattle.records.specs.ReadFields.{Reader, malformed, over-limit, fault-number}
 
 -- the limits hold, and the input is read whole
 pub record OpenedFrom {A : Type 0} (reader : Reader A) (F c : ℕ) (input : Bytes) (a : A) : Type 0 where

@@ -9,7 +9,8 @@ use lib.Dec.{T}
 use Rattle.names.specs.Names.{Bytes}
 use Rattle.names.specs.Refusals.{place-at}
 use Rattle.names.specs.declared.Place.{Place}
-use Rattle.records.specs.Read.{Input, Fault, malformed, Read, done, refused, Reader, Whole, whole, unread, left-over, outermost, from-first, read-whole}
+use Rattle.records.specs.Read.{Whole, whole, unread, left-over, outermost, from-first, read-whole}
+use Rattle.records.specs.ReadFields.{Input, Fault, malformed, Read, done, refused, Reader}
 
 -- nothing is said of the result
 abbrev pub Any : {A : Type 0} → A → Type 0

@@ -14,7 +14,8 @@ use Rattle.names.specs.Names.{Bytes, ascii, same}
 use Rattle.names.specs.Refusals.{place-at}
 use Rattle.records.specs.Records.{mark-width}
 use Rattle.records.specs.declared.Scan.{Scan}
-use Rattle.records.specs.Read.{Context, Input, Read, done, refused, Fault, malformed, fault-number, Reader, _>>=_, refuse, bytes, choose, marked}
+use Rattle.records.specs.Read.{Context}
+use Rattle.records.specs.ReadFields.{Input, Read, done, refused, Fault, malformed, fault-number, Reader, _>>=_, refuse, bytes, choose, marked}
 use Rattle.records.specs.Scan.{mod-number, mod-offset, scan-of, input-at, refused-scan, Comes, mark-index}
 use Rattle.records.proofs.Exact.{Exact, exact-bytes}
 use Rattle.records.proofs.Scans.{scan, by-number, going, staying, comes-then, reads-enough, reads-short}

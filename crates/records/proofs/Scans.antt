@@ -11,7 +11,8 @@ use Rattle.names.specs.Names.{Bytes}
 use Rattle.names.specs.Refusals.{place-at}
 use Rattle.names.specs.declared.Refusal.{Refusal}
 use Rattle.records.specs.declared.Scan.{Scan}
-use Rattle.records.specs.Read.{Context, Input, Read, done, refused, Fault, malformed, over-limit, fault-number, Reader, _>>=_, ret, times, next, bytes, Plain}
+use Rattle.records.specs.Read.{Context, Plain}
+use Rattle.records.specs.ReadFields.{Input, Read, done, refused, Fault, malformed, over-limit, fault-number, Reader, _>>=_, ret, times, next, bytes}
 use Rattle.records.specs.Scan.{mod-number, mod-offset, refused-scan, scan-of, input-at, goes-on, Comes, Reads}
 use Rattle.records.proofs.Exact.{Exact}
 

@@ -9,7 +9,8 @@ use Rattle.names.specs.Names.{Bytes, ascii, same}
 use Rattle.names.specs.Refusals.{place-at}
 use Rattle.records.specs.declared.Scan.{Scan}
 use Rattle.records.specs.Records.{mark-width, Sexp, SN, SI, SQ, SA, SC, Name, Complex}
-use Rattle.records.specs.Read.{Reader, _>>=_, ret, refuse, malformed, over-limit, fault-number, bytes, next, choose, marked, loc, name, integer, sexp-kinds, sexp-rule, cons-rule, sexp-at, at-most, pattern-of, pattern-after, sexp}
+use Rattle.records.specs.Read.{sexp-kinds, sexp-rule, cons-rule, sexp-at, pattern-of, pattern-after, sexp}
+use Rattle.records.specs.ReadFields.{Reader, _>>=_, ret, refuse, malformed, over-limit, fault-number, bytes, next, choose, marked, loc, name, integer, at-most}
 use Rattle.records.specs.Scan.{mark-index, sexp-marks, refused-scan, Comes, Reads}
 use Rattle.records.proofs.Exact.{exact-loc, exact-next, exact-integer, exact-name, exact-sexp-at, exact-up-to, exact-sexp}
 use Rattle.records.proofs.Scans.{comes-of, reads-of, reads-bind, reads-ret, scan, one-place, reads-enough, reads-stop}

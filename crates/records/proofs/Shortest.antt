@@ -8,7 +8,7 @@ use lib.Dec.{leb, ltb}
 use lib.ListN.{length, getD}
 use borrow.Author.Tests.{ltb-true, ltb-false, le-leb, lt-leb, ne-eqb}
 use Rattle.names.specs.Names.{Bytes}
-use Rattle.records.specs.Read.{shortest}
+use Rattle.records.specs.ReadFields.{shortest}
 
 not-below : (a b : ℕ) → not (ltb a b) ≡ leb b a
 not-below a b = go (ltb a b) refl

@@ -15,7 +15,8 @@ use Rattle.records.specs.Lists.{Each}
 use Rattle.records.specs.Limits.{level-limit, cons-limit, lambda-limit, count-limit}
 use Rattle.records.specs.Records.{mark-width, loc-width, raw-width, byte, Sexp, SN, SC, SI, SQ, SA, Kind, Assign, Name, Complex, Body, BL, BQ, BV, BC, BM, BF, Tail, no-tail, tail, Binding, BB, Helper, HC, HM, HD, HN, HR, Form, CF, to-bodies, to-bindings, to-helpers, integer-width}
 use Rattle.records.specs.Valid.{IsByte, AreBytes, ValidLoc, ValidName, WithLoc, ValidKeyword, ValidHint, ValidRaw, ValidCount, cons-depth, SexpFields, ValidSexp, ValidPattern, BodyFields, BodiesFields, TailFields, BindingFields, BindingsFields, HelperFields, HelpersFields, FormFields, lambda-depth, bodies-lambda-depth, tail-lambda-depth, binding-lambda-depth, bindings-lambda-depth, helper-lambda-depth, helpers-lambda-depth, form-lambda-depth, ValidHelper, ValidForm, ValidAssign, IsLet}
-use Rattle.records.specs.Read.{Zone, Context, Input, Fault, malformed, over-limit, Read, done, refused, Reader, _>>=_, _>>_, ret, refuse, check, times, deeper, in-lambda, in-zone, next, bytes, choose, marked, loc, name, raw-field, integer, up-to, with-loc, keyword, hint, count, shortest, sexp-rule, cons-rule, sexp-at, sexp, note, Readers, kind-of, more-levels, in-bindings, pattern-after, pattern-of, binding, let-of, tail-after, call-tail, body-rule, helper-rule, form-rule, rules, readers, assign-of, whole, read-whole, counted, at-most, optional-loc}
+use Rattle.records.specs.Read.{Zone, Context, sexp-rule, cons-rule, sexp-at, sexp, note, Readers, kind-of, more-levels, in-bindings, pattern-after, pattern-of, binding, let-of, tail-after, call-tail, body-rule, helper-rule, form-rule, rules, readers, assign-of, whole, read-whole}
+use Rattle.records.specs.ReadFields.{Input, Fault, malformed, over-limit, Read, done, refused, Reader, _>>=_, _>>_, ret, refuse, check, times, deeper, in-lambda, in-zone, next, bytes, choose, marked, loc, name, raw-field, integer, up-to, with-loc, keyword, hint, count, shortest, counted, at-most, optional-loc}
 use Rattle.records.proofs.Readers.{Any, not-done, same-value, same-input, T-of, reads-whole}
 use Rattle.records.proofs.Depth.{form-deep, helper-deep, assign-deep}
 use Rattle.records.proofs.Exact.{bindings-counted, bodies-counted, helpers-counted}

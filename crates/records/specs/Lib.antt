@@ -2,6 +2,7 @@ pub mod Limits
 pub mod Records
 pub mod Lists
 pub mod Sexps
+pub mod ReadFields
 pub mod Read
 pub mod Opened
 pub mod Depth

@@ -10,7 +10,8 @@ use Rattle.names.specs.CallAnswer.{max-counter}
 use Rattle.names.specs.Refusals.{place-at, refusing, placeless}
 use Rattle.names.specs.declared.Refusal.{Refusal}
 use Rattle.records.specs.Limits.{least-longest, most-longest, work-factor}
-use Rattle.records.specs.Read.{Reader, Whole, whole, unread, fault-number, read-whole}
+use Rattle.records.specs.Read.{Whole, whole, unread, read-whole}
+use Rattle.records.specs.ReadFields.{Reader, fault-number}
 
 -- F, the length of work memory and the counter are within their limits
 unfoldable pub limits : ℕ → ℕ → ℕ → Bool

@@ -20,7 +20,8 @@ use Rattle.records.specs.declared.Opening.the-variants.{Accepted, Refuse
 use Rattle.records.specs.Limits.{level-limit}
 use Rattle.records.specs.Opened.{Opened, opened, closed}
 use Rattle.records.specs.Records.{Body, Tail, Binding, Helper, Form}
-use Rattle.records.specs.Read.{Context, Input, Read, done, refused, fault-number, Reader, _>>=_, Zone, Readers, assign-of, times, count, binding, readers, kind-of, let-of, call-tail, in-lambda, lambda-after}
+use Rattle.records.specs.Read.{Context, Zone, Readers, assign-of, binding, readers, kind-of, let-of, call-tail, lambda-after}
+use Rattle.records.specs.ReadFields.{Input, Read, done, refused, fault-number, Reader, _>>=_, times, count, in-lambda}
 
 -- the place of a mark among these, or their number
 unfoldable pub mark-index : Bytes → List String → ℕ

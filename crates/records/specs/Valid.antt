@@ -10,7 +10,8 @@ use lib.ListN.{length, getD}
 use Rattle.names.specs.Names.{Bytes, name-limit, number-of}
 use Rattle.records.specs.Limits.{level-limit, cons-limit, lambda-limit, count-limit}
 use Rattle.records.specs.Records.{Loc, loc-width, raw-width, byte, Sexp, SN, SC, SI, SQ, SA, Kind, Assign, Pattern, Name, Complex, Body, BL, BQ, BV, BC, BM, BF, Bodies, []ᵇ, _∷ᵇ_, Tail, no-tail, tail, Binding, BB, Bindings, []ᵍ, _∷ᵍ_, Helper, HC, HM, HD, HN, HR, Helpers, []ʰ, _∷ʰ_, Form, CF, bindings-count, bodies-count, helpers-count}
-use Rattle.records.specs.Read.{Zone, Plain, InBinding, InMod, shortest, binding-zone}
+use Rattle.records.specs.Read.{Zone, Plain, InBinding, InMod, binding-zone}
+use Rattle.records.specs.ReadFields.{shortest}
 use Rattle.records.specs.Depth.{depth, helper-depth, form-depth}
 
 -- a number that one byte can hold

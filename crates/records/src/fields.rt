@@ -13,7 +13,7 @@ ghost use mathlib.Core.Path.{_≡_};
 ghost use Prim.Native.Nat.{_≤_};
 ghost use lib.ListN.{length};
 ghost use Rattle.names.specs.Refusals.{place-at};
-ghost use Rattle.records.specs.Read.{Fault, fault-number, bytes, loc, counted, name, raw-field, integer, at-most, optional-loc, keyword, hint, count, shortest};
+ghost use Rattle.records.specs.ReadFields.{Fault, fault-number, bytes, loc, counted, name, raw-field, integer, at-most, optional-loc, keyword, hint, count, shortest};
 ghost use Rattle.records.specs.Scan.{Reads, refused-scan};
 
 // A refusal, at the record's mark.

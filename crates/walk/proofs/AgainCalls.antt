@@ -17,7 +17,8 @@ use Rattle.records.specs.declared.Zone.the-variants.{Plain}
 use Rattle.records.specs.Depth.{helper-depth, form-depth}
 use Rattle.records.specs.Limits.{level-limit, lambda-limit, least-longest, most-longest, work-factor}
 use Rattle.records.specs.Opened.{Opened, opened, closed, limits, no-mod, open-input}
-use Rattle.records.specs.Read.{Reader, readers, read-whole}
+use Rattle.records.specs.Read.{readers, read-whole}
+use Rattle.records.specs.ReadFields.{Reader}
 use Rattle.records.specs.Records.{form-bytes, helper-bytes}
 use Rattle.records.specs.Valid.{AreBytes}
 use Rattle.records.proofs.Accepted.{Format, form-format, helper-format, opens, opened-valid}

@@ -15,7 +15,8 @@ use Rattle.names.specs.declared.Refusal.{Refusal}
 use Rattle.records.specs.Depth.{helper-depth, form-depth}
 use Rattle.records.specs.Limits.{level-limit, most-longest}
 use Rattle.records.specs.Opened.{Opened, opened, closed, open-input}
-use Rattle.records.specs.Read.{Reader, read-whole, readers, whole}
+use Rattle.records.specs.Read.{read-whole, readers, whole}
+use Rattle.records.specs.ReadFields.{Reader}
 use Rattle.records.specs.Records.{Helper, Form, form-bytes, helper-bytes}
 use Rattle.records.proofs.Depth.{form-deep, helper-deep}
 use Rattle.records.proofs.Exact.{form-read-back, helper-read-back}

@@ -13,7 +13,7 @@ use Rattle.names.specs.Refusals.{place-at, placeless}
 use Rattle.names.specs.declared.Refusal.{Refusal}
 use Rattle.records.specs.Records.{loc-number, form-bytes, helper-bytes}
 use Rattle.records.specs.Opened.{Opened, opened, closed, open-input}
-use Rattle.records.specs.Read.{Reader}
+use Rattle.records.specs.ReadFields.{Reader}
 use Rattle.records.proofs.Opened.{Start, start}
 use Rattle.ordering.specs.Lawful.{_is-in_}
 use Rattle.walk.specs.Steps.{M, Out, done, refused, Visit, visits, events}

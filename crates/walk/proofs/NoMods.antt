@@ -6,7 +6,8 @@ use Prim.Native.Nat.{ℕ, _≤_}
 use Rattle.names.specs.Names.{Bytes}
 use Rattle.records.specs.Limits.{level-limit, lambda-limit}
 use Rattle.records.specs.Opened.{Opened, opened, closed, open-input}
-use Rattle.records.specs.Read.{Reader, binding-zone}
+use Rattle.records.specs.Read.{binding-zone}
+use Rattle.records.specs.ReadFields.{Reader}
 use Rattle.records.specs.Records.{to-bindings}
 use Rattle.records.specs.Valid.{AreBytes, BindingsNoMod}
 use Rattle.records.specs.declared.Zone.{Zone}

@@ -22,7 +22,8 @@ use Rattle.names.proofs.Segments.{filled-written}
 use Rattle.records.specs.StepAnswer.{gives, refuses, Gives, gave, refused}
 use Rattle.records.specs.Limits.{level-limit, least-longest, most-longest, work-factor}
 use Rattle.records.specs.Opened.{Opened, opened, closed, limits, open-input}
-use Rattle.records.specs.Read.{Reader, readers}
+use Rattle.records.specs.Read.{readers}
+use Rattle.records.specs.ReadFields.{Reader}
 use Rattle.records.specs.Scan.{opening-of, wanted-reader}
 use Rattle.records.specs.Valid.{AreBytes, HelperNoMod, FormNoMod}
 use Rattle.records.specs.declared.Opening.{Opening}

@@ -17,11 +17,13 @@ use Rattle.names.proofs.Places.{at-place, at-left, at-right}
 use Rattle.records.specs.Limits.{level-limit, lambda-limit}
 use Rattle.records.specs.Lists.{joined, Each}
 use Rattle.records.specs.declared.Zone.the-variants.{Plain}
-use Rattle.records.specs.Read.{Input, readers, Reader}
+use Rattle.records.specs.Read.{readers}
+use Rattle.records.specs.ReadFields.{Input, Reader}
 use Rattle.records.specs.Records.{sexp-bytes, pattern-field, Body, body-bytes, Bodies, []ᵇ, _∷ᵇ_, bodies-bytes, bodies-count, Binding, binding-bytes}
 use Rattle.records.specs.Parts.{ValidBinding}
 use Rattle.records.specs.Valid.{ValidName, ValidSexp, ValidPattern, ValidBody}
-use Rattle.records.proofs.Complete.{Reads, reads-name, reads-sexp, reads-pattern-of, complete-readers, reads-binding}
+use Rattle.records.proofs.Complete.{complete-readers, reads-binding}
+use Rattle.records.proofs.ReadBack.{Reads, reads-name, reads-sexp, reads-pattern-of}
 use Rattle.walk.specs.Arena.{MapAt}
 use Rattle.walk.specs.CallWalks.{EachFine, FineBodies}
 use Rattle.walk.specs.Walking.{Fine, Ready, Tells}

@@ -7,7 +7,8 @@ use Rattle.names.specs.Names.{computing-names, Bytes}
 use Rattle.names.specs.Maps.{computing-maps}
 use Rattle.records.specs.Limits.{level-limit}
 use Rattle.records.specs.Opened.{computing-opened, opened, closed, open-input}
-use Rattle.records.specs.Read.{computing-read, Reader, readers}
+use Rattle.records.specs.Read.{computing-read, readers}
+use Rattle.records.specs.ReadFields.{Reader}
 use Rattle.records.specs.Sexps.{computing-sexps}
 use Rattle.records.specs.Records.{computing-records, Helper, Form, form-bytes, helper-bytes}
 use Rattle.ordering.specs.Toposort.{computing-toposort}

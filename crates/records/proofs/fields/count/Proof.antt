@@ -1,7 +1,7 @@
 -- `records::fields::count` meets its contract. Assumes nothing.
 use mathlib.Core.Path.{refl}
 use borrow.Author.Needs.{needs}
-use Rattle.records.specs.Read.{over-limit, fault-number}
+use Rattle.records.specs.ReadFields.{over-limit, fault-number}
 use Rattle.records.proofs.fields.count.Statement.{statement}
 use Rattle.records.proofs.fields.count.Tie as tie
 

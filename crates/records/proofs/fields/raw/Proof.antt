@@ -3,7 +3,7 @@ use mathlib.Core.List.{_++_}
 use borrow.Author.Needs.{needs}
 use Rattle.names.specs.Names.{Bytes, number-of}
 use Rattle.records.specs.Records.{raw-width}
-use Rattle.records.specs.Read.{bytes, counted, raw-field}
+use Rattle.records.specs.ReadFields.{bytes, counted, raw-field}
 use Rattle.records.proofs.FieldLaws.{reads-made}
 use Rattle.records.proofs.fields.raw.Statement.{statement}
 use Rattle.records.proofs.fields.raw.Tie as tie

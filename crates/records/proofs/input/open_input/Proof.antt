@@ -5,7 +5,7 @@ use borrow.Author.Needs.{needs}
 use borrow.Author.Tests.{not-true, not-false}
 use native.Mathlib.Omega.{arith}
 use Rattle.records.specs.Opened.{limits}
-use Rattle.records.specs.Read.{Reader}
+use Rattle.records.specs.ReadFields.{Reader}
 use Rattle.records.specs.Scan.{wanted-reader}
 use Rattle.records.proofs.Opened.{within-limits}
 use Rattle.records.proofs.InputLaws.{Came, came, exact-wanted, open-limits, open-long, open-refused, open-left, open-mod, open-accepted}

@@ -1,7 +1,7 @@
 -- `records::record::pattern` meets its contract. Assumes nothing.
 use mathlib.Core.Path.{refl}
 use borrow.Author.Needs.{needs}
-use Rattle.records.specs.Read.{malformed, fault-number}
+use Rattle.records.specs.ReadFields.{malformed, fault-number}
 use Rattle.records.proofs.Exact.{exact-up-to}
 use Rattle.records.proofs.FieldLaws.{byte-there}
 use Rattle.records.proofs.SexpLaws.{pattern-stop, pattern-name, pattern-complex}

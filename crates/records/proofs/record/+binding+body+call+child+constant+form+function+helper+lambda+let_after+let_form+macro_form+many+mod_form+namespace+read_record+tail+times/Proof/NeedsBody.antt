@@ -5,7 +5,8 @@ use lib.ListN.{length}
 use mathlib.Core.Path.{refl, ap, sym, _∙_}
 use Rattle.names.specs.Names.{ascii, same}
 use Rattle.records.specs.Records.{BQ, BV}
-use Rattle.records.specs.Read.{choose, let-after as let-reader, call-after, mod-after}
+use Rattle.records.specs.Read.{let-after as let-reader, call-after, mod-after}
+use Rattle.records.specs.ReadFields.{choose}
 use Rattle.records.specs.Scan.{lambda-within}
 use Rattle.records.proofs.BodyLaws.{body-kind, body-quoted, body-unknown, body-deep, last-body}
 use Rattle.records.proofs.record.body.Reads as body

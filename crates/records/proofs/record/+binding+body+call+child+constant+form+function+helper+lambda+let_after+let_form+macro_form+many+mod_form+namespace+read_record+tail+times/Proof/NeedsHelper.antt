@@ -4,7 +4,8 @@ use native.Mathlib.Omega.{arith}
 use lib.ListN.{length}
 use mathlib.Core.Path.{refl, ap, sym, _∙_}
 use Rattle.names.specs.Names.{ascii, same}
-use Rattle.records.specs.Read.{choose, constant-after, macro-after, function-after, namespace-after, reference-after}
+use Rattle.records.specs.Read.{constant-after, macro-after, function-after, namespace-after, reference-after}
+use Rattle.records.specs.ReadFields.{choose}
 use Rattle.records.proofs.BodyLaws.{helper-kind, helper-unknown, helper-deep, last-helper}
 use Rattle.records.proofs.Goes.{goes-reads}
 use Rattle.records.proofs.record.helper.Reads as helper

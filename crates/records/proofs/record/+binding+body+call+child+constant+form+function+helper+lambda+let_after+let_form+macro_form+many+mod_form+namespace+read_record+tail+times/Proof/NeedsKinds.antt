@@ -1,7 +1,7 @@
 -- What `call`, `constant`, `function`, `macro_form`, `mod_form` and `namespace` need to meet their contracts: one field after the other. Assumes nothing.
 use Prim.Native.Nat.{ℕ}
 use mathlib.Core.Path.{refl}
-use Rattle.records.specs.Read.{malformed, fault-number}
+use Rattle.records.specs.ReadFields.{malformed, fault-number}
 use Rattle.records.proofs.KindLaws.{goes-call, goes-mod, goes-constant, goes-macro, goes-function, goes-namespace}
 use Rattle.records.proofs.record.call.Reads as call
 use Rattle.records.proofs.record.+binding+body+call+child+constant+form+function+helper+lambda+let_after+let_form+macro_form+many+mod_form+namespace+read_record+tail+times.Lts-call as call-lts

@@ -1,7 +1,7 @@
 -- What `tail` needs to meet its contract. Assumes nothing.
 use Prim.Native.Nat.{ℕ}
 use mathlib.Core.Path.{refl}
-use Rattle.records.specs.Read.{malformed, fault-number}
+use Rattle.records.specs.ReadFields.{malformed, fault-number}
 use Rattle.records.proofs.Exact.{exact-up-to}
 use Rattle.records.proofs.FieldLaws.{byte-there}
 use Rattle.records.proofs.KindLaws.{tail-stop, tail-none, tail-there}
