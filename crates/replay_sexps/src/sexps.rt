@@ -32,7 +32,7 @@ ghost use Rattle.names.specs.Refusals.{placeless};
 ghost use Rattle.names.specs.Segments.{At};
 ghost use Rattle.records.specs.Records.{Sexp, Form, sexp-bytes};
 ghost use Rattle.replays.specs.Judging.{Decides};
-ghost use Rattle.replay_sexps.specs.Cases.{Taken, FormIn, SexpsIn, Ready, Holds, due-step, DueGrowth, numbered-rule, Renamed};
+ghost use Rattle.replay_sexps.specs.Cases.{Taken, FormIn, SexpsIn, Ready, Holds, due-step, DueGrowth, numbered-rule, Renamed, DrawsAsTold, FormsAsTold, InputAsTold};
 ghost use Rattle.walk.specs.Arena.{Asks, Held, Substitutes};
 
 // The length of work memory that is enough for every F.
@@ -194,6 +194,7 @@ fn draws(c: Case, mem: &mut [u8], input: &[u8], at: Places, map: &[u8], wanted: 
     requires { ⌜ Taken (now input) (c .counter) ⌝ }
     requires { ⌜ ((p : Sexp) × (t : Sexp) × SexpsIn (now input) (at .pattern) (at .target) p t) ⌝ }
     requires { ⌜ 4 * length (now input) + c .room ≤ length (now mem) ⌝ }
+    ensures { λ r. ⌜ (r ≡ true → DrawsAsTold c (now (input .entry)) (at .pattern) (at .target) (now (map .entry)) (now (wanted .entry))) ⌝ }
 {
     load(mem, input);
     let pattern = at.pattern;
@@ -218,6 +219,7 @@ fn draws(c: Case, mem: &mut [u8], input: &[u8], at: Places, map: &[u8], wanted: 
 fn finds(c: Case, mem: &mut [u8], input: &[u8], map: &[u8], wanted: &[u8]) -> bool
     requires { ⌜ Taken (now input) (c .counter) ⌝ }
     requires { ⌜ ((f : Form) × FormIn (now input) f) ⌝ }
+    ensures { λ r. ⌜ (r ≡ true → FormsAsTold c (now (input .entry)) (now (map .entry)) (now (wanted .entry))) ⌝ }
 {
     let v = form_view(input);
     let body = v.first;
@@ -244,7 +246,9 @@ fn finds(c: Case, mem: &mut [u8], input: &[u8], map: &[u8], wanted: &[u8]) -> bo
 }
 
 // Whether the calls answer a case as they must; its input has to be a form.
-pub fn agrees(c: Case, mem: &mut [u8], input: &[u8], map: &[u8], wanted: &[u8]) -> bool {
+pub fn agrees(c: Case, mem: &mut [u8], input: &[u8], map: &[u8], wanted: &[u8]) -> bool
+    ensures { λ r. ⌜ (r ≡ true → InputAsTold c (now (input .entry)) (now (map .entry)) (now (wanted .entry))) ⌝ }
+{
     match open_input(Wanted::Form, c.f, WORK, c.counter, input) {
         Opening::Refused(_) => false,
         Opening::Accepted => finds(c, mem, input, map, wanted),

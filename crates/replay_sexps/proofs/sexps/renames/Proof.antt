@@ -12,7 +12,8 @@ use Rattle.replay_sexps.proofs.sexps.renames.Tie as tie
 
 substitute-requires : tie.Need-substitute-requires
 substitute-requires c κs =
-    let s = c .before .before .before .before .before in
+    let known = c .before .before in
+    let s = known .before .before .before in
     let r = s .pre .2 in
     asks-part (s .args .target) (s .pre .0) (record { fields = r .valid .0; conses = r .valid .1 }) (r .there) (omega (arith, r .within)) (r .map) (omega (arith, r .within, r .fits))
 
