@@ -1,4 +1,4 @@
--- A binding of an assign (`assign_binding`): its head and the kind of its pattern; a Name binding is copied, and of a Complex one the head, before what is made of
+-- A binding of an assign (`assign_one`): its head and the kind of its pattern; a Name binding is copied, and of a Complex one the head, before what is made of
 -- its pattern and body. Assumes nothing.
 use mathlib.Core.Path.{_≡_, refl, sym, ap, subst, _∙_}
 use mathlib.Core.List.{_++_, append-assoc}

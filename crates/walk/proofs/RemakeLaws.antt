@@ -1,4 +1,4 @@
--- A Complex pattern by its map and In-body of its body (`remake`): what each part is asked, and what it answers. Assumes nothing.
+-- A Complex pattern by its map and In-body of its body (`redo`): what each part is asked, and what it answers. Assumes nothing.
 use mathlib.Core.Path.{_≡_, refl, sym, ap, subst, _∙_}
 use mathlib.Core.Bool.{false}
 use mathlib.Core.List.{_++_}

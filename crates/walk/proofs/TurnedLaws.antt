@@ -1,4 +1,4 @@
--- An assign whose bindings are made (`turned`): its head and they are moved together, and its body follows by both rules. Assumes nothing.
+-- An assign whose bindings are made (`moved`): its head and they are moved together, and its body follows by both rules. Assumes nothing.
 use mathlib.Core.Path.{_≡_, refl, sym, ap, subst, _∙_}
 use mathlib.Core.List.{List, _++_}
 use native.Mathlib.Omega.{arith}
