@@ -52,7 +52,8 @@ enum rename_number {
     RENAME_DEADLOCK = 5,        /* the bindings of an assign have no order */
     RENAME_NAME_TOO_LONG = 6,   /* a made name has more than RENAME_NAME_LIMIT bytes */
     RENAME_RESULT_TOO_LONG = 7, /* a result on its way passes f */
-    RENAME_BUFFER_TOO_SHORT = 8 /* the result does not fit into `result` */
+    RENAME_BUFFER_TOO_SHORT = 8, /* the result does not fit into `result` */
+    RENAME_PAGE_TOO_SHORT = 9   /* the lines of a page do not fit into `result` */
 };
 
 /* The places in `told`, and how many there are. */
@@ -84,6 +85,16 @@ uint32_t rename_children_only(size_t f, uint8_t *work, size_t work_len, uint64_t
 /* As rename_whole_form, of one helper (an H record) in place of a form. */
 uint32_t rename_single_helper(size_t f, uint8_t *work, size_t work_len, uint64_t counter, const uint8_t *input, size_t input_len,
                               uint8_t *result, size_t result_len, uint64_t told[4]);
+
+/* The bytes of a line of a page, the newline at its end among them. */
+#define RENAME_LINE 73
+
+/* Lays a form (a CF) out as a page: one line for each record, in the sequence of their marks, of 72 characters and a newline. Two spaces
+ * stand for each record around it, then its mark, a space, and its name or `-`. A BM may stand anywhere. RENAME_LINE times the records of
+ * the form are written, and RENAME_LINE times f bytes of result are always enough. There is no counter, and 0 is told for it. Refuses with
+ * 1, 2, 3 or 9. */
+uint32_t rename_page(size_t f, uint8_t *work, size_t work_len, const uint8_t *input, size_t input_len, uint8_t *result, size_t result_len,
+                     uint64_t told[4]);
 
 /* Reads an input and changes nothing but `place`: returns 0, place 0, if it is exactly one record of the kind (enum rename_kind) within all
  * limits, or the refusal 1, 2, 3 or 4 with its place that a call with enough work memory would give. Any other kind is 1, place 0. */

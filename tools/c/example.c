@@ -17,7 +17,7 @@ typedef uint32_t call(size_t f, uint8_t *work, size_t work_len, uint64_t counter
                       size_t result_len, uint64_t told[4]);
 
 static uint8_t work[RENAME_WORK_FACTOR * F];
-static uint8_t result[F];
+static uint8_t result[5 * RENAME_LINE];
 
 /* The worked example of docs/FORMAT.md: (mod x x). */
 #define IDENTITY "CF\0\0\0\1\0\0" "SA\0\0\0\2\1x" "\0" "BVSA\0\0\0\3\1x"
@@ -51,20 +51,26 @@ static void prepare(uint64_t told[4])
         told[i] = 99;
 }
 
-/* Prints an answer and the bytes written; no byte behind these may have changed. */
-static void show(const char *what, uint32_t number, const uint64_t told[4])
+/* Prints an answer; no byte behind those written may have changed. */
+static void show_answer(const char *what, uint32_t number, const uint64_t told[4])
 {
     printf("%s: number %u, place %llu, counter %llu, rounds %llu, length %llu\n", what, (unsigned)number,
            (unsigned long long)told[RENAME_PLACE], (unsigned long long)told[RENAME_COUNTER], (unsigned long long)told[RENAME_ROUNDS],
            (unsigned long long)told[RENAME_LENGTH]);
     must(told[RENAME_LENGTH] <= sizeof result, "the length is that of the buffer at most");
+    for (size_t i = (size_t)told[RENAME_LENGTH]; i < sizeof result; i++)
+        must(result[i] == FOUND, "the buffer behind the result stays as found");
+}
+
+/* Prints an answer and the bytes written. */
+static void show(const char *what, uint32_t number, const uint64_t told[4])
+{
+    show_answer(what, number, told);
     size_t len = (size_t)told[RENAME_LENGTH];
     for (size_t i = 0; i < len; i++)
         printf("%s%02X", i == 0 ? "  " : " ", result[i]);
     if (len > 0)
         printf("\n");
-    for (size_t i = len; i < sizeof result; i++)
-        must(result[i] == FOUND, "the buffer behind the result stays as found");
 }
 
 /* Makes a name. */
@@ -87,6 +93,16 @@ static void with_record(const char *what, call *f, const uint8_t *bytes, size_t 
     uint32_t number = f(F, work, sizeof work, counter, input, len, result, room, told);
     show(what, number, told);
     must(memcmp(input, bytes, len) == 0, "the input stays as found");
+}
+
+/* Lays a form out in so much room, and prints its lines. */
+static void page(const char *what, const uint8_t *bytes, size_t len, size_t room)
+{
+    uint64_t told[RENAME_TOLD];
+    prepare(told);
+    uint32_t number = rename_page(F, work, sizeof work, bytes, len, result, room, told);
+    show_answer(what, number, told);
+    fwrite(result, 1, (size_t)told[RENAME_LENGTH], stdout);
 }
 
 /* Reads a record of a kind. */
@@ -125,5 +141,9 @@ int main(void)
     with_record("whole form of a helper", rename_whole_form, RECORD(HELPER), 0, sizeof result);
     with_record("children only", rename_children_only, RECORD(IDENTITY), 0, sizeof result);
     with_record("single helper", rename_single_helper, RECORD(HELPER), 0, sizeof result);
+
+    page("page", RECORD(IDENTITY), sizeof result);
+    page("page, buffer of 291 bytes", RECORD(IDENTITY), 4 * RENAME_LINE - 1);
+    page("page of a helper", RECORD(HELPER), sizeof result);
     return 0;
 }

@@ -5,13 +5,20 @@ use crate::file;
 use crate::refusal;
 use crate::say;
 use libc::STDOUT_FILENO;
-use records::Family;
+use outline::Around;
+use outline::ENTRY_WIDTH;
+use outline::index::index;
+use records::MOST_LONGEST;
 use records::Opening;
 use records::Wanted;
-use records::count::count_records;
 use records::input::open_input;
-ghost use mathlib.Core.Path.{_≡_};
-ghost use Rattle.commands.specs.Records.{wanted-family, RecordsIn};
+ghost use Prim.Native.Nat.{_≤_};
+ghost use lib.ListN.{length};
+ghost use Rattle.records.specs.Limits.{most-longest};
+ghost use Rattle.commands.specs.Records.{RecordsIn};
+
+// The length of work memory that holds the index of every record.
+const INDEX: usize = ENTRY_WIDTH * MOST_LONGEST;
 
 // Reads a file and judges its bytes.
 pub fn check(to: i32, wanted: Wanted, path: &[u8], f: usize) {
@@ -28,7 +35,8 @@ fn judge(to: i32, input: &[u8], wanted: Wanted, f: usize) {
     match open_input(wanted, f, WORK, 0, input) {
         Opening::Refused(refusal) => refusal::print(to, refusal, false, input.len() > f),
         Opening::Accepted => {
-            let n = records_in(wanted, input);
+            let mut mem = [0u8; INDEX];
+            let n = records_in(input, &mut mem);
             say::text(STDOUT_FILENO, b"accepted: ");
             say::number(STDOUT_FILENO, n as u64);
             if n == 1 {
@@ -40,21 +48,17 @@ fn judge(to: i32, input: &[u8], wanted: Wanted, f: usize) {
     }
 }
 
-// How many records an accepted input has.
-fn records_in(wanted: Wanted, input: &[u8]) -> usize
-    ensures { λ r. ⌜ RecordsIn wanted (now (input .entry)) r ⌝ }
+// How many records an accepted input has. Work memory is lent as an array, so that no proof has to
+// count its bytes.
+fn records_in(input: &[u8], mem: &mut [u8; INDEX]) -> usize
+    requires { ⌜ length (now input) ≤ most-longest ⌝ }
+    ensures { λ r. ⌜ RecordsIn (now (input .entry)) r ⌝ }
 {
-    let r = count_records(family_of(wanted), input);
+    let around = Around {
+        offset: 0,
+        depth: 0,
+        inside: false,
+    };
+    let r = index(input, mem, around);
     r.count
-}
-
-// The family of the record that a call wants.
-fn family_of(wanted: Wanted) -> Family
-    ensures { λ r. ⌜ r ≡ wanted-family wanted ⌝ }
-{
-    match wanted {
-        Wanted::Form => Family::Form,
-        Wanted::Helper => Family::Helper,
-        Wanted::Assign => Family::Body,
-    }
 }

@@ -8,6 +8,7 @@ pub mod file;
 pub mod kind;
 pub mod name;
 pub mod order;
+pub mod page;
 mod provided;
 pub mod refusal;
 pub mod say;

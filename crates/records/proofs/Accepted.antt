@@ -3,19 +3,19 @@ use mathlib.Core.Path.{_≡_, ap, sym, _∙_}
 use mathlib.Core.Bool.{true}
 use mathlib.Core.Logic.{_↔_}
 use mathlib.Core.Option.{Option, none}
-use Prim.Native.Nat.{ℕ, _≤_}
+use Prim.Native.Nat.{ℕ, _*_, _≤_}
 use lib.Dec.{leb, le→leb}
 use lib.ListN.{length}
 use Rattle.names.specs.Names.{Bytes}
-use Rattle.records.specs.Limits.{level-limit}
-use Rattle.records.specs.Records.{body-bytes, helper-bytes, form-bytes}
+use Rattle.records.specs.Limits.{level-limit, most-longest, work-factor}
+use Rattle.records.specs.Records.{body-bytes, helper-bytes, Form, form-bytes}
 use Rattle.records.specs.Read.{Plain, Whole, whole, readers, assign-of, read-whole}
 use Rattle.records.specs.ReadFields.{Reader}
-use Rattle.records.specs.Opened.{opened, limits, no-mod, open-input}
+use Rattle.records.specs.Opened.{opened, limits, no-mod, open-by, read-input, open-input}
 use Rattle.records.specs.Valid.{AreBytes, ValidForm, ValidHelper, ValidAssign, NoMod, HelperNoMod, FormNoMod}
 use Rattle.records.proofs.FirstMods.{body-first, helper-first, form-first}
 use Rattle.records.proofs.Exact.{form-read-back, helper-read-back, assign-read-back}
-use Rattle.records.proofs.Opened.{start}
+use Rattle.records.proofs.Opened.{within-limits, work-within, read-through, start}
 use Rattle.records.proofs.Readers.{true-of}
 use Rattle.records.proofs.Complete.{WholeRead, form-complete, helper-complete, assign-complete}
 use Rattle.records.proofs.Valid.{form-valid, helper-valid, assign-valid}
@@ -69,9 +69,21 @@ module _ {A : Type 0} {m : Reader A} {f : A → Bytes} {Valid Clear : A → Type
   module _ (F work c : ℕ) where
     -- a call opens the bytes of a valid tree with no such BM
     pub opens : (t : A) → limits F work c ≡ true → length (f t) ≤ F → Valid t → Clear t → open-input m F work c (f t) ≡ opened t
-    unfolding open-input no-mod
-    opens t h l v n = rw (h, true-of (leb (length (f t)) F) (le→leb (length (f t)) F l), reads-clear t v n, open-input)
+    unfolding open-by no-mod
+    opens t h l v n = rw (h, true-of (leb (length (f t)) F) (le→leb (length (f t)) F l), reads-clear t v n, open-by)
 
     -- and nothing else
     pub opened-valid : (input : Bytes) (t : A) → AreBytes input → open-input m F work c input ≡ opened t → Valid t × Clear t × (input ≡ f t)
     opened-valid input t b h = let o = rw h at (start m F work c input) in let p = clear-valid input t b (o .read) in (p .0, p .1, s .back input t none (o .read))
+
+    -- where a BM may stand anywhere, an input that is read is the bytes of a valid tree too, and the limits hold
+    pub read-valid : (input : Bytes) (t : A) → AreBytes input → read-input m F work c input ≡ opened t
+        → (input ≡ f t) × Valid t × (length input ≤ F) × (F ≤ most-longest) × (work-factor * F ≤ work)
+    read-valid input t b h =
+        let (x, r) = rw h at (read-through m F work c input) in
+        (s .back input t x (r .read), s .valid input t x b (r .read), r .size, within-limits F work c (r .within) .0, work-within F work c (r .within))
+
+-- so of compile forms
+pub read-form : (F work c : ℕ) (input : Bytes) (f : Form) → AreBytes input → read-input (readers level-limit .form) F work c input ≡ opened f
+    → (input ≡ form-bytes f) × ValidForm f × (length input ≤ F) × (F ≤ most-longest) × (work-factor * F ≤ work)
+read-form F work c input f b h = read-valid form-format F work c input f b h

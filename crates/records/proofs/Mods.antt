@@ -14,7 +14,7 @@ use Rattle.names.specs.declared.Place.{Place}
 use Rattle.names.proofs.Places.{at-left}
 use Rattle.records.specs.Limits.{level-limit}
 use Rattle.records.specs.Mods.{Node, body-node, helper-node, form-node, node-bytes, AssignMod, FirstMod, NoAssignMod}
-use Rattle.records.specs.Opened.{opened, closed, limits, no-mod, open-input}
+use Rattle.records.specs.Opened.{opened, closed, limits, no-mod, open-by, open-input}
 use Rattle.records.specs.Read.{Plain, whole, readers, assign-of, read-whole}
 use Rattle.records.specs.ReadFields.{Reader}
 use Rattle.records.specs.Records.{record-bytes, Body, body-bytes, Helper, helper-bytes, Form, form-bytes}
@@ -60,8 +60,8 @@ module _ {A : Type 0} {m : Reader A} {f : A → Bytes} {Valid Clear : A → Type
 
     -- what a call answers of it
     opened-as : {t : A} {x : Option ℕ} → GivenTree f Valid F work c input t → s .first t ≡ x → open-input m F work c input ≡ no-mod (whole t x)
-    unfolding open-input
-    opened-as {t} {x} g e = rw (g .within, true-of (leb (length input) F) (le→leb (length input) F (g .size)), given-read g, e, open-input)
+    unfolding open-by
+    opened-as {t} {x} g e = rw (g .within, true-of (leb (length input) F) (le→leb (length input) F (g .size)), given-read g, e, open-by)
 
     -- refused with 4 at p exactly if the first such BM of the tree stands at p
     pub mod-refused : AreBytes input → (p : ℕ)

@@ -10,16 +10,15 @@ use Rattle.names.specs.Segments.{At}
 use Rattle.names.proofs.Places.{at-left}
 use Rattle.records.specs.declared.Family.the-variants.{Body as a-body, Binding as a-binding, Helper as a-helper, Form as a-form}
 use Rattle.records.specs.declared.TaggedView.{TaggedView}
-use Rattle.records.specs.Count.{many-part, tail-part, named-part}
 use Rattle.records.specs.Depth.{depth, tail-depth, binding-depth, helper-depth, form-depth}
 use Rattle.records.specs.Lists.{joined}
-use Rattle.records.specs.Parts.{Part, family-part, sexp-part, fixed-part, list-part, name-part, raw-part, keyword-part, hint-part, pattern-part, Skips, Past}
+use Rattle.records.specs.Parts.{Part, family-part, sexp-part, fixed-part, list-part, many-part, tail-part, named-part, name-part, raw-part, keyword-part, hint-part, pattern-part, Skips, Past}
 use Rattle.records.specs.Records.{mark-width, loc-width, byte, record-bytes, Loc, Kind, kind-field, Sexp, Body, BL, BQ, BV, BC, BM, BF, body-bytes, Bodies, Tail, no-tail, tail, tail-bytes, Binding, BB, binding-bytes, Bindings, HC, HM, HD, HN, HR, helper-bytes, Helpers, Form, CF, form-bytes}
 use Rattle.records.specs.Scan.{mark-index, body-marks, helper-marks}
 use Rattle.records.specs.Valid.{BodyFields, TailFields, BindingFields, HelperFields, FormFields, lambda-depth, tail-lambda-depth, binding-lambda-depth, helper-lambda-depth, form-lambda-depth}
 use Rattle.records.specs.Views.{Closes, SeesTagged, TailAt}
-use Rattle.records.proofs.CountLaws.{BodyOf, body-by-mark, HelperOf, helper-by-mark}
 use Rattle.records.proofs.Lists.{Listed, listed-bodies, listed-bindings, listed-helpers}
+use Rattle.records.proofs.MarkedLaws.{BodyOf, body-by-mark, HelperOf, helper-by-mark}
 use Rattle.records.proofs.Parts.{past-then, fixed-past}
 use Rattle.records.proofs.Views.{ByteAt, byte-is, byte-length, kind-length, close-mark, close-on, close-step}
 
@@ -95,8 +94,8 @@ close-named : {s : Bytes} {at n r : ℕ} {fs : List Bytes} → Past named-part s
     → Closes s at (name-field m ∷ w ∷ fs) n → Closes s r fs n
 close-named x m w vm vw h = close-both _ (x .past (m, w) (vm, vw)) h
 
-close-many : {p : Part} {f : p .0 → ℕ} {s : Bytes} {at n r m k : ℕ} {bs : Bytes} {fs : List Bytes}
-    → Past (many-part p) s at r → Listed p f m bs k → Closes s at (byte m ∷ bs ∷ fs) n → Closes s r fs n
+close-many : {p : Part} {s : Bytes} {at n r m : ℕ} {bs : Bytes} {fs : List Bytes}
+    → Past (many-part p) s at r → Listed p m bs → Closes s at (byte m ∷ bs ∷ fs) n → Closes s r fs n
 close-many {p} {m = m} {bs = bs} x l h =
     let e : byte (length (l .trees)) ++ joined (p .1) (l .trees) ≡ byte m ++ bs = cc (l .count, l .same) in
     close-both _ (rw e at (x .past (l .trees) (l .each))) h

@@ -11,5 +11,4 @@ pub mod Scan
 pub mod StepAnswer
 pub mod Parts
 pub mod Views
-pub mod Count
 pub mod Mods

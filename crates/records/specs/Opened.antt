@@ -17,7 +17,7 @@ use Rattle.records.specs.ReadFields.{Reader, fault-number}
 unfoldable pub limits : ℕ → ℕ → ℕ → Bool
 limits F work c = leb least-longest F && leb F most-longest && leb (work-factor * F) work && leb c max-counter
 
--- the record of an input, or the first of the refusals 1, 3 by length, 2 and 3 by reading, 4
+-- the record of an input, or the first of its refusals
 pub data Opened (A : Type 0) : Type 0 where
   opened : A → Opened A
   closed : Refusal → Opened A
@@ -29,15 +29,28 @@ module _ {A : Type 0} where
   no-mod (whole a (some p)) = closed (refusing 4 (place-at p))
   no-mod (unread f p) = closed (refusing (fault-number f) p)
 
-  -- the refusals in their order
-  unfoldable pub open-input : Reader A → ℕ → ℕ → ℕ → Bytes → Opened A
-  open-input reader F work c input =
+  -- a BM may stand anywhere
+  unfoldable pub any-mod : Whole A → Opened A
+  any-mod (whole a m) = opened a
+  any-mod (unread f p) = closed (refusing (fault-number f) p)
+
+  -- 1 and 3 by length, and then what is made of the reading
+  unfoldable pub open-by : (Whole A → Opened A) → Reader A → ℕ → ℕ → ℕ → Bytes → Opened A
+  open-by judged reader F work c input =
       elim (limits F work c) [
         | false ↦ closed (placeless 1)
-        | true ↦ elim (leb (length input) F) [ false ↦ closed (placeless 3) | true ↦ no-mod (read-whole reader input) ]
+        | true ↦ elim (leb (length input) F) [ false ↦ closed (placeless 3) | true ↦ judged (read-whole reader input) ]
       ]
+
+  -- the reading refusals: 1, 3 by length, 2 and 3 by reading
+  abbrev pub read-input : Reader A → ℕ → ℕ → ℕ → Bytes → Opened A
+  read-input = open-by any-mod
+
+  -- the reading refusals, and then 4
+  abbrev pub open-input : Reader A → ℕ → ℕ → ℕ → Bytes → Opened A
+  open-input = open-by no-mod
 
 -- unfolds with every definition of this file
 unfoldable pub computing-opened : Unit {0}
-unfolding limits no-mod open-input
+unfolding limits no-mod any-mod open-by
 computing-opened = tt

@@ -9,11 +9,11 @@ use Rattle.names.specs.Names.{Bytes, number-of, name-field}
 use Rattle.names.specs.Segments.{At}
 use Rattle.records.specs.declared.Family.{Family}
 use Rattle.records.specs.declared.Family.the-variants.{Body as a-body, Binding as a-binding, Helper as a-helper, Form as a-form}
-use Rattle.records.specs.Depth.{bodies-depth, binding-depth, bindings-depth, helpers-depth}
+use Rattle.records.specs.Depth.{tail-depth, binding-depth}
 use Rattle.records.specs.Lists.{joined, Each}
 use Rattle.records.specs.Limits.{level-limit, lambda-limit}
-use Rattle.records.specs.Records.{byte, Sexp, sexp-bytes, Pattern, pattern-field, Body, body-bytes, Bodies, bodies-bytes, bodies-count, Binding, binding-bytes, Bindings, bindings-bytes, bindings-count, Helper, helper-bytes, Helpers, helpers-bytes, helpers-count, Form, form-bytes}
-use Rattle.records.specs.Valid.{WithLoc, ValidName, ValidRaw, ValidKeyword, ValidHint, SexpFields, ValidSexp, ValidPattern, BodiesFields, BindingFields, BindingsFields, HelpersFields, bodies-lambda-depth, binding-lambda-depth, bindings-lambda-depth, helpers-lambda-depth, ValidBody, ValidHelper, ValidForm}
+use Rattle.records.specs.Records.{byte, Sexp, sexp-bytes, Pattern, pattern-field, Body, body-bytes, Tail, tail-bytes, Binding, binding-bytes, Helper, helper-bytes, Form, form-bytes}
+use Rattle.records.specs.Valid.{WithLoc, ValidName, ValidRaw, ValidKeyword, ValidHint, SexpFields, ValidSexp, ValidPattern, TailFields, BindingFields, tail-lambda-depth, binding-lambda-depth, ValidBody, ValidHelper, ValidForm}
 
 -- trees, their bytes, and which of them are meant
 abbrev pub Part : Type 1
@@ -66,15 +66,17 @@ pattern-part = (Pattern, pattern-field, ValidPattern)
 abbrev pub list-part : Part → ℕ → Part
 list-part p n = (List (p .0), joined (p .1), λ ts. (length ts ≡ n) × Each (p .2) ts)
 
--- n bodies, bindings or helpers as they stand in a record
-abbrev pub bodies-part : ℕ → Part
-bodies-part n = (Bodies, bodies-bytes, λ bs. (bodies-count bs ≡ n) × BodiesFields bs × (bodies-depth bs ≤ level-limit) × (bodies-lambda-depth bs ≤ lambda-limit))
+-- a count, and that many of them
+abbrev pub many-part : Part → Part
+many-part p = (List (p .0), (λ ts. byte (length ts) ++ joined (p .1) ts), Each (p .2))
 
-abbrev pub bindings-part : ℕ → Part
-bindings-part n = (Bindings, bindings-bytes, λ bs. (bindings-count bs ≡ n) × BindingsFields bs × (bindings-depth bs ≤ level-limit) × (bindings-lambda-depth bs ≤ lambda-limit))
+-- the tail of a call
+abbrev pub tail-part : Part
+tail-part = (Tail, tail-bytes, λ t. TailFields t × (tail-depth t ≤ level-limit) × (tail-lambda-depth t ≤ lambda-limit))
 
-abbrev pub helpers-part : ℕ → Part
-helpers-part n = (Helpers, helpers-bytes, λ hs. (helpers-count hs ≡ n) × HelpersFields hs × (helpers-depth hs ≤ level-limit) × (helpers-lambda-depth hs ≤ lambda-limit))
+-- a name and R
+abbrev pub named-part : Part
+named-part = (Bytes × Bytes, (λ x. name-field (x .0) ++ x .1), λ x. ValidName (x .0) × ValidRaw (x .1))
 
 -- r is the length of the tree whose bytes s starts with, whatever follows
 pub record Skips (p : Part) (s : Bytes) (r : ℕ) : Type 0 where

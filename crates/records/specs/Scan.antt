@@ -1,6 +1,6 @@
 -- What the reader's code answers: a reading (Read.antt) whose tree is forgotten. `Scan`, `Context` and `Zone` are those of the code.
 -- Assumes nothing.
-use mathlib.Core.Bool.{true, false}
+use mathlib.Core.Bool.{Bool, true, false}
 use mathlib.Core.List.{List, [], _∷_}
 use mathlib.Core.Option.{Option, none, some}
 use mathlib.Core.Path.{_≡_}
@@ -18,9 +18,9 @@ use Rattle.records.specs.declared.Wanted.the-variants.{Form as a-whole-f
 use Rattle.records.specs.declared.Opening.{Opening}
 use Rattle.records.specs.declared.Opening.the-variants.{Accepted, Refused}
 use Rattle.records.specs.Limits.{level-limit}
-use Rattle.records.specs.Opened.{Opened, opened, closed}
+use Rattle.records.specs.Opened.{Opened, opened, closed, no-mod, any-mod}
 use Rattle.records.specs.Records.{Body, Tail, Binding, Helper, Form}
-use Rattle.records.specs.Read.{Context, Zone, Readers, assign-of, binding, readers, kind-of, let-of, call-tail, lambda-after}
+use Rattle.records.specs.Read.{Context, Zone, Readers, Whole, assign-of, binding, readers, kind-of, let-of, call-tail, lambda-after}
 use Rattle.records.specs.ReadFields.{Input, Read, done, refused, fault-number, Reader, _>>=_, times, count, in-lambda}
 
 -- the place of a mark among these, or their number
@@ -138,6 +138,11 @@ abbrev pub wanted-reader : Wanted → AnyReader
 wanted-reader a-whole-form = (Form, readers level-limit .form)
 wanted-reader a-single-helper = (Helper, readers level-limit .helper)
 wanted-reader an-assign = (Body, assign-of)
+
+-- whether a BM may stand anywhere, as the code is told
+unfoldable pub judged-by : {A : Type 0} → Bool → Whole A → Opened A
+judged-by true = any-mod
+judged-by false = no-mod
 
 -- the code's answer to an input that is opened or refused
 abbrev pub opening-of : {A : Type 0} → Opened A → Opening

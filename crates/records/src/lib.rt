@@ -1,11 +1,9 @@
 // The form records: reading them, and what other crates need of their bytes.
 //
 // `input` reads what a call is given, `record`, `sexp` and `fields` read one record. Of a record that
-// was read, `skip` and `past` say how long it and its fields are, `bodies`, `helpers` and `sexps` where
-// its fields and children start, and `count` how many records it holds. `start` has where a reading
-// starts.
+// was read, `skip` and `past` say how long it and its fields are, and `bodies`, `helpers` and `sexps`
+// where its fields and children start. `start` has where a reading starts.
 pub mod bodies;
-pub mod count;
 pub mod fields;
 pub mod helpers;
 pub mod input;
@@ -184,10 +182,4 @@ pub enum SexpView {
     Text(NameView),
     Atom(NameView),
     Unknown,
-}
-
-// How many records a record has, and where it ends.
-pub struct Counted {
-    pub count: usize,
-    pub end: usize,
 }

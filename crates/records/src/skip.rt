@@ -19,8 +19,7 @@ use crate::sexp::sexp_mark;
 ghost use Prim.Native.Nat.{_≤_};
 ghost use lib.ListN.{length};
 ghost use Rattle.records.specs.Records.{mark-width};
-ghost use Rattle.records.specs.Count.{many-part, tail-part, named-part};
-ghost use Rattle.records.specs.Parts.{family-part, fields-part, sexp-part, list-part, Skips, Past};
+ghost use Rattle.records.specs.Parts.{family-part, fields-part, sexp-part, list-part, many-part, tail-part, named-part, Skips, Past};
 
 // The length of the record that s starts with.
 pub fn skip(family: Family, s: &[u8]) -> usize

@@ -54,15 +54,15 @@ pub fn check() {
     }
 }
 
-// `rename order FILE F`.
-pub fn order() {
+// `rename order FILE F` and `rename page FILE F`.
+pub fn of_file(asked: Asked) {
     if os::arg_count() != 4 {
         usage::print();
         return;
     }
     let c = number(3, b"F");
     if let Counter::Is(f) = c {
-        task::run(Asked::Order, f as usize, 0);
+        task::run(asked, f as usize, 0);
     }
 }
 

@@ -3,11 +3,13 @@ use crate::renaming;
 use crate::renaming::Call;
 use commands::WORK;
 use commands::order::order;
+use commands::page::page;
 use libc::STDERR_FILENO;
 
-// An order, or a renaming.
+// An order, a page, or a renaming.
 pub enum Asked {
     Order,
+    Page,
     Renaming(Call),
 }
 
@@ -19,6 +21,7 @@ pub fn run(asked: Asked, f: usize, counter: u64) {
     let mut work = [0u8; WORK];
     match asked {
         Asked::Order => order(STDERR_FILENO, &path[..n], f, &mut work),
+        Asked::Page => page(STDERR_FILENO, &path[..n], f, &mut work),
         Asked::Renaming(call) => renaming::read(call, &path[..n], f, counter, &mut work),
     }
 }

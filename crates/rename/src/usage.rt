@@ -10,6 +10,7 @@ pub fn print() {
         b"       rename check form|helper|assign FILE F\n",
     );
     say::text(STDERR_FILENO, b"       rename order FILE F\n");
+    say::text(STDERR_FILENO, b"       rename page FILE F\n");
     say::text(
         STDERR_FILENO,
         b"       rename whole|children|helper FILE F COUNTER OUT\n",

@@ -4,6 +4,7 @@ use commands::WORK;
 use commands::check::check;
 use commands::name::make;
 use commands::order::order;
+use commands::page::page;
 use libc::STDOUT_FILENO;
 use records::Wanted;
 
@@ -24,6 +25,13 @@ fn orders(work: &mut [u8; WORK]) {
     order(STDOUT_FILENO, b"invoice", 256, work);
 }
 
+// The page of a form; a byte is left over; an assign is no form.
+fn pages(work: &mut [u8; WORK]) {
+    page(STDOUT_FILENO, b"identity", 64, work);
+    page(STDOUT_FILENO, b"left-over", 64, work);
+    page(STDOUT_FILENO, b"total", 256, work);
+}
+
 // A name, and a counter that is too large.
 fn names() {
     make(STDOUT_FILENO, b"payment", 41);
@@ -35,5 +43,6 @@ fn main() {
     let mut work = [0u8; WORK];
     checks();
     orders(&mut work);
+    pages(&mut work);
     names();
 }

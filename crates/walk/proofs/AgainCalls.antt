@@ -16,13 +16,13 @@ use Rattle.records.specs.declared.Zone.{Zone}
 use Rattle.records.specs.declared.Zone.the-variants.{Plain}
 use Rattle.records.specs.Depth.{helper-depth, form-depth}
 use Rattle.records.specs.Limits.{level-limit, lambda-limit, least-longest, most-longest, work-factor}
-use Rattle.records.specs.Opened.{Opened, opened, closed, limits, no-mod, open-input}
-use Rattle.records.specs.Read.{readers, read-whole}
+use Rattle.records.specs.Opened.{Opened, opened, closed, limits, open-input}
+use Rattle.records.specs.Read.{readers}
 use Rattle.records.specs.ReadFields.{Reader}
 use Rattle.records.specs.Records.{form-bytes, helper-bytes}
 use Rattle.records.specs.Valid.{AreBytes}
 use Rattle.records.proofs.Accepted.{Format, form-format, helper-format, opens, opened-valid}
-use Rattle.records.proofs.Opened.{Start, start}
+use Rattle.records.proofs.Opened.{Start, through, start}
 use Rattle.records.proofs.Readers.{T-of, true-of}
 use Rattle.walk.specs.Steps.{M, Out, Event, done, refused}
 use Rattle.walk.specs.Helperforms.{whole-walk, children-walk, helper-walk}
@@ -44,13 +44,7 @@ module _ (F work : ℕ) where
 
   -- of an input that is opened
   pub opened-limits : {A : Type 0} (reader : Reader A) (c : ℕ) (input : Bytes) (a : A) → open-input reader F work c input ≡ opened a → limits F work c ≡ true
-  unfolding open-input
-  opened-limits {A} reader c input a h = go (limits F work c) refl h
-    where
-      go : (b : Bool) → limits F work c ≡ b
-          → _≡_ {A = Opened A} (elim b [ false ↦ closed (placeless 1) | true ↦ elim (leb (length input) F) [ false ↦ closed (placeless 3) | true ↦ no-mod (read-whole reader input) ] ]) (opened a) → limits F work c ≡ true
-      go true e q = e
-      go false e q = absurd (let z : _≡_ {A = ℕ} 0 1 = cc in omega arith)
+  opened-limits reader c input a h = (rw h at (through reader F work c input)) .within
 
 -- What a call has written, with the answer and buffer r, is the record of the tree that its walk gives, and the call's reader opens it as that tree.
 pub record Again {A : Type 0} (reader : Reader A) (walk-of : ℕ → A → M A) (bytes : A → Bytes) (F work c : ℕ) (input : Bytes) (r : Result) : Type 0 where

@@ -14,7 +14,7 @@ use Rattle.records.specs.declared.ArgsView.{ArgsView}
 use Rattle.records.specs.declared.NamedView.{NamedView}
 use Rattle.records.specs.declared.NamespaceView.{NamespaceView}
 use Rattle.records.specs.declared.Step.{Step}
-use Rattle.records.proofs.CountLaws.{HelperOf, helper-by-mark}
+use Rattle.records.proofs.MarkedLaws.{HelperOf, helper-by-mark}
 use Rattle.walk.specs.Arena.{fitting}
 use Rattle.walk.specs.FormWalks.{FineHelper, TreeReady, WalksTree, KeepsHelper}
 use Rattle.walk.specs.Helperforms.{rename-args-helperform, rename-in-helperform}

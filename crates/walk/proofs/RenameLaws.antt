@@ -1,11 +1,10 @@
 -- From the input of a call to its answer: an input that is accepted is a record that its walk takes, and what the walk leaves in work memory is what the call
 -- answers. Assumes nothing.
 use mathlib.Core.Path.{_≡_, refl, ap, sym, subst, _∙_}
-use mathlib.Core.Bool.{true, _&&_}
+use mathlib.Core.Bool.{true}
 use mathlib.Core.List.{List, []}
 use native.Mathlib.Omega.{arith}
 use Prim.Native.Nat.{ℕ, _*_, _-_, _^_, _≤_, _<_}
-use lib.Dec.{T, leb, leb→le}
 use lib.ListN.{length, take}
 use lib.Seq.{length-take-le}
 use Rattle.names.specs.CallAnswer.{Result, accepted-answer, refused-answer, delivered, max-counter}
@@ -17,11 +16,10 @@ use Rattle.names.proofs.CallAnswers.{delivered-short, delivered-fits}
 use Rattle.names.proofs.Frames.{filled-at}
 use Rattle.names.proofs.Parts.{part, into}
 use Rattle.names.proofs.Places.{at-whole}
-use Rattle.names.proofs.Same.{T-left, T-right}
 use Rattle.names.proofs.Segments.{filled-written}
 use Rattle.records.specs.StepAnswer.{gives, refuses, Gives, gave, refused}
-use Rattle.records.specs.Limits.{level-limit, least-longest, most-longest, work-factor}
-use Rattle.records.specs.Opened.{Opened, opened, closed, limits, open-input}
+use Rattle.records.specs.Limits.{level-limit, most-longest, work-factor}
+use Rattle.records.specs.Opened.{Opened, opened, closed, open-input}
 use Rattle.records.specs.Read.{readers}
 use Rattle.records.specs.ReadFields.{Reader}
 use Rattle.records.specs.Scan.{opening-of, wanted-reader}
@@ -34,7 +32,7 @@ use Rattle.records.specs.declared.Wanted.{Wanted}
 use Rattle.records.specs.declared.Zone.{Zone}
 use Rattle.records.specs.declared.Zone.the-variants.{Plain}
 use Rattle.records.proofs.Accepted.{Format, form-format, helper-format, opened-valid}
-use Rattle.records.proofs.Opened.{OpenedFrom, start}
+use Rattle.records.proofs.Opened.{OpenedFrom, work-within, start}
 use Rattle.walk.specs.Arena.{outcome}
 use Rattle.walk.specs.Assigns.{AssignsOrdered}
 use Rattle.walk.specs.Calls.{answered, call-run, whole-run, children-run, helper-run, whole-call, children-call, helper-call}
@@ -71,13 +69,6 @@ pub record Taken (k : Request) (input : Bytes) (F work c : ℕ) : Type 0 where
   pub longest : F ≤ most-longest
   pub counts : c ≤ max-counter
   pub enough : work-factor * F ≤ work
-
--- work memory is long enough
-work-within : (F work c : ℕ) → limits F work c ≡ true → work-factor * F ≤ work
-unfolding limits
-work-within F work c e =
-    let t : T (leb least-longest F && leb F most-longest && leb (work-factor * F) work && leb c max-counter) = rw e tt in
-    leb→le (work-factor * F) work (T-right (leb least-longest F && leb F most-longest) (leb (work-factor * F) work) (T-left (leb least-longest F && leb F most-longest && leb (work-factor * F) work) (leb c max-counter) t))
 
 -- a record that is opened is fine, and the input is its bytes
 module _ {A : Type 0} {m : Reader A} {bytes : A → Bytes} {Valid : A → Type 0} (Clear : Zone → A → Type 0) {levels : A → ℕ} (s : Format m bytes Valid (Clear Plain)) (l : (a : A) → Valid a → levels a ≤ level-limit) where

@@ -33,6 +33,18 @@ extern "C" {
         told: *mut Told,
     ) -> u32;
 
+    /// The call Page, which takes no counter.
+    fn rename_page(
+        f: usize,
+        work: *mut u8,
+        work_len: usize,
+        input: *const u8,
+        input_len: usize,
+        result: *mut u8,
+        result_len: usize,
+        told: *mut Told,
+    ) -> u32;
+
     /// The call Whole form.
     fn rename_whole_form(
         f: usize,
@@ -103,6 +115,18 @@ pub fn call(case: &Case, work: &mut [u8], input: &[u8], result: &mut [u8]) -> An
         },
         // SAFETY: the same.
         None => unsafe { rename_name(input.as_ptr(), input.len(), case.counter, result.as_mut_ptr(), result.len(), &mut told) },
+    };
+    let [place, counter, rounds, len] = told;
+    Answered { number: number.into(), place, counter, rounds, len }
+}
+
+/// The call Page.
+pub fn page(f: usize, work: &mut [u8], input: &[u8], result: &mut [u8]) -> Answered {
+    let mut told = [u64::MAX; 4];
+    // SAFETY: each pointer and length are one slice's, no two of them overlap, and the four numbers live through the call.
+    let number = unsafe {
+        let (work, work_len) = (work.as_mut_ptr(), work.len());
+        rename_page(f, work, work_len, input.as_ptr(), input.len(), result.as_mut_ptr(), result.len(), &mut told)
     };
     let [place, counter, rounds, len] = told;
     Answered { number: number.into(), place, counter, rounds, len }

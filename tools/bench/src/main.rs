@@ -7,6 +7,7 @@ mod guarded;
 mod library;
 mod order_speed;
 mod orders;
+mod pages;
 mod plain;
 mod speed;
 mod whole_speed;
@@ -22,6 +23,7 @@ const HELP: &str = "bench COMMAND ..
                               their answers against the oracle's; first every directed case, if asked for
   names --count N --seed S    N cases of the call Name
   orders --count N --seed S   N assigns, ordered, deadlocked and refused: the answers of the call Order against the oracle's
+  pages --count N --seed S    N forms, whole and damaged: the answers of the call Page against the oracle's
   order-speed                 microseconds that ordering an assign of 10 or 64 bindings takes the library and Chialisp's Rust
   whole [--seed S]            nanoseconds for a byte of Whole form, from bytes to bytes, beside Chialisp's Rust on built trees and
                               with reading and writing";
@@ -47,6 +49,7 @@ fn command(words: &[&str]) -> Result<(), String> {
         ["calls", "--count", count, "--seed", seed, "--directed"] => calls::agree(number(seed)?, number(count)? as usize, true),
         ["names", "--count", count, "--seed", seed] => calls::names(number(seed)?, number(count)? as usize),
         ["orders", "--count", count, "--seed", seed] => orders::agree(number(seed)?, number(count)? as usize),
+        ["pages", "--count", count, "--seed", seed] => pages::agree(number(seed)?, number(count)? as usize),
         ["order-speed"] => order_speed::speed(),
         ["whole"] => whole_speed::speed(1),
         ["whole", "--seed", seed] => whole_speed::speed(number(seed)?),

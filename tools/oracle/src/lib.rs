@@ -14,6 +14,7 @@ pub mod generate;
 mod model;
 mod ordering;
 pub mod orders;
+pub mod pages;
 pub mod print;
 pub mod random;
 pub mod reader;

@@ -5,7 +5,7 @@ use oracle::generate::Maker;
 use oracle::orders;
 use oracle::reads::{self, Series};
 use oracle::records::{Bytes, Record};
-use oracle::{calls, cases, compare, print, rows, sample, sexps, vectors};
+use oracle::{calls, cases, compare, pages, print, reader, rows, sample, sexps, vectors};
 use std::io::{self, BufRead};
 use std::process::ExitCode;
 
@@ -24,6 +24,9 @@ const HELP: &str = "oracle COMMAND ..
                       writes N of them, most of them small, to a file
   store-orders --count N --seed S [--long] FILE
                       writes N different cases of the call order to a file, most of them small; or of any length
+  store-pages --count N --seed S FILE
+                      writes N different cases of the call page to a file, most of them small
+  page HEX            the page of a CF
   store-sexps --count N --seed S FILE
                       writes N different cases of Invent and Substitute to a file, most of them small
   calls --count N --seed S [--full]
@@ -73,6 +76,10 @@ fn command(words: &[&str]) -> Done {
         ["store-sexps", options @ .., file] => {
             store(file, options, |seed, count| sexps::store(sexps::Series::seeded(seed), count))
         }
+        ["store-pages", options @ .., file] => {
+            store(file, options, |seed, count| pages::store(pages::Series::short(seed), count))
+        }
+        ["page", hex] => page(hex),
         ["calls", options @ ..] => print_calls(options),
         ["store-calls", options @ .., file] => {
             store(file, options, |seed, count| calls::store(call_series(options, seed), count))
@@ -192,6 +199,12 @@ fn show(hex: &str) -> Done {
         _ => Call::Whole,
     };
     println!("{}", readable(&opened(call, &input)?));
+    Ok(())
+}
+
+fn page(hex: &str) -> Done {
+    let form = reader::form_with_mods(&vectors::from_hex(hex)?).map_err(|r| format!("refused: {} at {}", r.number, r.place))?;
+    pages::lines(&form).iter().for_each(|line| print!("{}", String::from_utf8_lossy(line)));
     Ok(())
 }
 

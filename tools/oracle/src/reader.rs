@@ -49,6 +49,11 @@ pub fn form(input: &[u8]) -> Read<Form> {
     whole(input, |reader| reader.form(OUTSIDE))
 }
 
+/// A whole CF in which a BM may stand anywhere.
+pub fn form_with_mods(input: &[u8]) -> Read<Form> {
+    Ok(read_all(input, |reader| reader.form(OUTSIDE))?.0)
+}
+
 /// A whole helper.
 pub fn helper(input: &[u8]) -> Read<Helper> {
     whole(input, |reader| reader.helper(OUTSIDE))
@@ -59,15 +64,20 @@ pub fn assign(input: &[u8]) -> Read<Let> {
     whole(input, |reader| reader.assign())
 }
 
-fn whole<T>(input: &[u8], read: impl Fn(&mut Reader) -> Read<T>) -> Read<T> {
+/// A record with nothing left over, and the first BM in a binding body of an assign.
+fn read_all<T>(input: &[u8], read: impl Fn(&mut Reader) -> Read<T>) -> Read<(T, Option<usize>)> {
     let mut reader = Reader { input, at: 0, first_macro: None };
     let record = read(&mut reader)?;
     if reader.at < input.len() {
         return refuse(2, reader.at);
     }
-    match reader.first_macro {
-        Some(place) => refuse(4, place),
-        None => Ok(record),
+    Ok((record, reader.first_macro))
+}
+
+fn whole<T>(input: &[u8], read: impl Fn(&mut Reader) -> Read<T>) -> Read<T> {
+    match read_all(input, read)? {
+        (_, Some(place)) => refuse(4, place),
+        (record, None) => Ok(record),
     }
 }
 

@@ -7,7 +7,7 @@ use lib.ListN.{length}
 use Rattle.names.specs.Segments.{At}
 use Rattle.records.specs.Parts.{family-part, list-part}
 use Rattle.records.proofs.Parts.{skips-past, Left, left-step, left-none}
-use Rattle.records.proofs.CountLaws.{BodyOf, HelperOf, family-long, no-body, no-helper}
+use Rattle.records.proofs.MarkedLaws.{BodyOf, HelperOf, family-long, no-body, no-helper}
 use Rattle.records.proofs.SkipLaws.{skips-short, body-skips, helper-skips, many-past, no-tail-past, tail-past, let-ends, quote-ends, value-ends, call-ends, mod-ends, lambda-ends, binding-ends, constant-ends, macro-ends, function-ends, namespace-ends, reference-ends, form-ends}
 use borrow.Fn.Kinds.{In}
 use borrow.Fn.PlainCycle.{Measures, is, falls, and}
