@@ -17,3 +17,4 @@ pub mod NamePlaces
 pub mod Drawn
 pub mod PageLaws
 pub mod PageCall
+mod PageCases

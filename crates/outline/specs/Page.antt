@@ -15,8 +15,8 @@ use Rattle.records.specs.Opened.{opened, closed, read-input}
 use Rattle.records.specs.Read.{readers}
 use Rattle.records.specs.Records.{byte, Form}
 use Rattle.outline.specs.declared.Entry.{Entry}
-use Rattle.outline.specs.Outline.{Outline, node, mark-bytes, outline-records, form-outline}
-use Rattle.outline.specs.Index.{nothing-around, outline-listing}
+use Rattle.outline.specs.Outline.{Outline, node, _++ᵖ_, mark-bytes, outline-bytes, pieces-bytes, outline-records, pieces-records, sexp-outline, pattern-pieces, own-name, body-outline, bodies-pieces, tail-pieces, binding-outline, bindings-pieces, helper-outline, helpers-pieces, form-outline}
+use Rattle.outline.specs.Index.{nothing-around, is-mod, outline-listing, pieces-listing}
 
 -- the characters of a line
 abbrev pub line-width : ℕ
@@ -72,3 +72,8 @@ laid-out buffer f =
 unfoldable pub page-call : ℕ → ℕ → Bytes → Bytes → Result
 page-call F work input buffer =
     elim (read-input (readers level-limit .form) F work 0 input) [ closed r ↦ refused-answer 0 buffer r | opened f ↦ laid-out buffer f ]
+
+-- unfolds with every definition of a page
+unfoldable pub computing-page : Unit {0}
+unfolding mark-bytes outline-bytes pieces-bytes outline-records pieces-records _++ᵖ_ sexp-outline pattern-pieces own-name body-outline bodies-pieces tail-pieces binding-outline bindings-pieces helper-outline helpers-pieces form-outline is-mod outline-listing pieces-listing spaces visible shown fitted line-parts line-text line lines page laid-out page-call
+computing-page = tt

@@ -22,10 +22,11 @@ use Rattle.outline.specs.declared.Mark.the-variants as marks
 use Rattle.outline.specs.Outline.{Outline, node, Pieces, no-more, bytes-then, record-then, record-alone, _++ᵖ_, mark-bytes, outline-bytes, pieces-bytes}
 use Rattle.outline.specs.Index.{moved-on, outline-listing, pieces-listing, place-width, entry-width, entry-bytes, index-bytes}
 
--- the mark that two bytes are, if any
+-- the mark that two bytes are: BB, CF or none
 unfoldable pub binding-or-form : Bytes → Mark
 binding-or-form x = elim (same x (ascii "BB")) [ true ↦ marks.Binding | false ↦ elim (same x (ascii "CF")) [ true ↦ marks.Form | false ↦ marks.Unknown ] ]
 
+-- the mark of an H record by its place among them, or else m
 unfoldable pub helper-by-place : Mark → ℕ → Mark
 helper-by-place m zero = marks.Constant
 helper-by-place m (suc zero) = marks.Macro
@@ -34,9 +35,11 @@ helper-by-place m (suc (suc (suc zero))) = marks.Namespace
 helper-by-place m (suc (suc (suc (suc zero)))) = marks.Reference
 helper-by-place m (suc (suc (suc (suc (suc k))))) = m
 
+-- one that is of no S and of no B record
 unfoldable pub helper-or-other : Bytes → Mark
 helper-or-other x = helper-by-place (binding-or-form x) (mark-index x helper-marks)
 
+-- of a B record
 unfoldable pub body-by-place : Mark → ℕ → Mark
 body-by-place m zero = marks.Let
 body-by-place m (suc zero) = marks.Quoted
@@ -46,9 +49,11 @@ body-by-place m (suc (suc (suc (suc zero)))) = marks.Mod
 body-by-place m (suc (suc (suc (suc (suc zero))))) = marks.Lambda
 body-by-place m (suc (suc (suc (suc (suc (suc k)))))) = m
 
+-- one that is of no S record
 unfoldable pub body-or-other : Bytes → Mark
 body-or-other x = body-by-place (helper-or-other x) (mark-index x body-marks)
 
+-- of an S record
 unfoldable pub sexp-by-place : Mark → ℕ → Mark
 sexp-by-place m zero = marks.Nil
 sexp-by-place m (suc zero) = marks.Pair
@@ -57,6 +62,7 @@ sexp-by-place m (suc (suc (suc zero))) = marks.Text
 sexp-by-place m (suc (suc (suc (suc zero)))) = marks.Atom
 sexp-by-place m (suc (suc (suc (suc (suc k))))) = m
 
+-- any mark, or Unknown
 unfoldable pub first-mark : Bytes → Mark
 first-mark x = sexp-by-place (body-or-other x) (mark-index x sexp-marks)
 
@@ -167,7 +173,7 @@ pub record Indexes (s mem mem′ : Bytes) (a : Around) (r : Counted) : Type 0 wh
   pub counts : (x : Outline) → InShape x → At s 0 (outline-bytes x) → r .count ≡ length (outline-listing a x)
   pub lists : (x : Outline) → InShape x → At s 0 (outline-bytes x) → At mem′ 0 (index-bytes (outline-listing a x))
 
--- records are listed up to a place behind a mark: they are no more than the bytes, and their entries stand in work memory
+-- records are listed up to a place behind a mark, no more of them than bytes, and work memory has room for what follows
 pub record Begun (s mem : Bytes) (a : Around) (c : Counted) : Type 0 where
   pub room : entry-width * length s ≤ length mem
   pub offset : a .offset + length s ≤ most-longest
