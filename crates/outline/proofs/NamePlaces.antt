@@ -25,7 +25,7 @@ use Rattle.outline.specs.PageWork.{name-place, label-name, LabelsName, L
 use Rattle.outline.proofs.Listed.{of-shaped, shaped-mark}
 use Rattle.outline.proofs.KnownMarks.{mark-known}
 
--- a name that is seen at a place, and none behind the end
+-- there is no name behind the end
 pub no-name-past : {s : Bytes} {at : ℕ} → length s < at → LabelsName s at Unnamed
 no-name-past lt = record { within = tt; says = λ n v a. absurd (omega (arith, a .fits)) }
 
@@ -57,7 +57,7 @@ module _ {s : Bytes} (x : Outline) (o : OutlineOf x) (a : At s 0 (outline-bytes 
   mark-read : first-mark (take mark-width (drop 0 s)) ≡ outline-mark x
   mark-read = ap first-mark mark-there ∙ mark-known (outline-mark x) (shaped-mark (of-shaped o))
 
--- where the name stands that a record has, if it has one
+-- the place of a name, and the name that stands there, if a record has one
 data NameStands (s : Bytes) : NamePlace → Option Bytes → Type 0 where
   no-place : NameStands s places.Nowhere none
   a-place : {p : ℕ} {n : Bytes} → ValidName n → At s p (name-field n) → NameStands s (places.At p) (some n)
@@ -75,7 +75,7 @@ past-byte-at : {s : Bytes} {p : ℕ} (b : ℕ) (rest : Bytes) → At s p (byte b
 unfolding byte
 past-byte-at b rest a = at-right (byte b) rest a
 
--- so does that of every record
+-- where the name of every record stands
 name-stands : {s : Bytes} {x : Outline} → OutlineOf x → At s 0 (outline-bytes x) → NameStands s (name-place (outline-mark x)) (outline-name x)
 unfolding name-place outline-mark outline-name outline-bytes pieces-bytes _++ᵖ_ mark-bytes ascii sexp-outline pattern-pieces own-name body-outline binding-outline helper-outline form-outline SexpFields BindingFields ValidPattern HelperFields
 name-stands (of-sexp (SN l) v) a = no-place
