@@ -23,6 +23,7 @@ use Rattle.ordering.specs.Needs.{bits, providers, needs-of}
 use Rattle.ordering.specs.Provisions.{places, Entry, Entries, Provisions}
 use Rattle.ordering.specs.Words.{make-provides-set, pattern-provides, words, item, items}
 use Rattle.ordering.proofs.Few.{few-needs, few-words}
+use Rattle.outline.proofs.Joins.{each-append}
 use Rattle.commands.specs.Waiting.{TellsWord, TellsMissing}
 
 -- equal names
@@ -97,13 +98,8 @@ unfolding bits
 zero-of true fs e z = let q : _≡_ {A = ℕ} 0 1 = cc in absurd (omega arith)
 zero-of false fs e z = omega arith
 
--- what each of two lists has
+-- what each of two lists has, where each of both has it
 module _ {A : Type 0} (P : A → Type 0) where
-  each-append : (xs ys : List A) → Each P xs → Each P ys → Each P (xs ++ ys)
-  unfolding Each
-  each-append [] ys h k = k
-  each-append (x ∷ xs) ys h k = (h .0, each-append xs ys (h .1) k)
-
   each-parts : (xs ys : List A) → Each P (xs ++ ys) → Each P xs × Each P ys
   unfolding Each
   each-parts [] ys h = (tt, h)

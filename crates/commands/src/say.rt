@@ -1,4 +1,5 @@
 // Words and numbers, written to a descriptor. What cannot be written is dropped.
+use outline::page::visible;
 
 // Writes bytes as they are.
 pub fn text(to: i32, words: &[u8]) {
@@ -17,17 +18,9 @@ pub fn name(to: i32, bytes: &[u8]) {
     }
     let mut i = 0;
     while i < bytes.len() {
-        visible(to, bytes[i]);
+        let shown = visible(bytes[i]);
+        text(to, &[shown; 1]);
         i += 1;
-    }
-}
-
-// Writes a byte, or `.` if it is no visible character.
-fn visible(to: i32, byte: u8) {
-    if byte < 0x21 || byte > 0x7E {
-        text(to, b".");
-    } else {
-        text(to, &[byte; 1]);
     }
 }
 

@@ -1,4 +1,3 @@
-pub mod MarkLaws
 pub mod EntryLaws
 pub mod Joins
 pub mod Listings

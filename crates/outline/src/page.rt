@@ -69,7 +69,7 @@ fn label(s: &[u8]) -> Label
 }
 
 // A byte outside 21 to 7E prints as a dot.
-fn visible(b: u8) -> u8
+pub fn visible(b: u8) -> u8
     ensures { λ r. ⌜ r ≡ visible b ⌝ }
 {
     if b < 33 {

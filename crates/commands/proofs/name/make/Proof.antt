@@ -6,6 +6,12 @@ use Rattle.names.proofs.CallAnswers.{answer-len}
 use Rattle.commands.proofs.name.make.Statement.{statement}
 use Rattle.commands.proofs.name.make.Tie as tie
 
+-- what is lent of the result is within it
+within : tie.Need-array-share-prefix-result
+within c =
+    let back = c .before .before .before in
+    answer-len _ _ _ (back .before .before .name-call .ensures)
+
 pub make-spec : {M : Type 1} → statement M
 make-spec =
     tie.close
@@ -16,8 +22,8 @@ make-spec =
     (λ c. tt)
     (λ c. search needs)
     (λ c κs. tt)
-    (λ c. answer-len _ _ _ (c .before .before .before .before .before .name-call .ensures))
-    (λ c. sym (length-take-le _ _ (answer-len _ _ _ (c .before .before .before .before .before .before .name-call .ensures))))
+    within
+    (λ c. sym (length-take-le _ _ (within (c .before))))
     (λ c κs. tt)
     (λ c. search needs)
     (λ c κs. tt)

@@ -27,8 +27,15 @@ find-names-requires c κs =
     let size = length-take-le _ _ (array-borrow-prefix-bodies there) in
     ((at-start .pre .0, refl), (_, bound-of _ (sym size) (w .0)))
 
+-- the start, from where the names are listed
+abbrev begin : tie.After-find-names → tie.Start
+begin c =
+    let at-let-view = c .before .before .before in
+    let viewed = at-let-view .before in
+    viewed .before .before .before
+
 -- what was listed
-listed : (c : tie.After-find-names) → (c .find-names .result ≤ length (c .find-names .last .1 .1 .0)) × Given (c .before .before .before .before .before .before .before .args .s .now) (take (c .find-names .result) (c .find-names .last .1 .1 .0))
+listed : (c : tie.After-find-names) → (c .find-names .result ≤ length (c .find-names .last .1 .1 .0)) × Given (begin c .args .s .now) (take (c .find-names .result) (c .find-names .last .1 .1 .0))
 listed c =
     let there = c .before .before in
     let at-let-view = there .before .before in
@@ -59,12 +66,12 @@ names-spec =
     (λ c. sym (length-take-le _ _ (array-borrow-prefix-bodies (c .before))))
     find-names-requires
     (λ c. listed (c .before .before .before) .0)
-    (λ c. sym (length-take-le _ _ (listed (c .before .before .before .before) .0)))
+    (λ c. let shared = c .before in sym (length-take-le _ _ (listed (shared .before .before .before) .0)))
     slice-aggregate-print-stuck-2
     (λ c κs. search needs)
-    (λ c κs. listed (c .before .before .before .before .before .before) .1)
+    (λ c κs. let shared = c .before .before .before in listed (shared .before .before .before) .1)
     (λ c. listed (c .before .before .before) .0)
-    (λ c. sym (length-take-le _ _ (listed (c .before .before .before .before) .0)))
+    (λ c. let shared = c .before in sym (length-take-le _ _ (listed (shared .before .before .before) .0)))
     (λ c κs. search needs)
     (λ c. search needs)
     (λ c. search needs))

@@ -22,6 +22,8 @@ name-spec =
     (λ c. tt)
     (λ c. omega arith)
     (λ c κs. tt)
+    (λ c. search needs)
+    (λ c κs. tt)
     (λ c. omega arith)
     (λ c. omega arith)
     (λ c. tt)

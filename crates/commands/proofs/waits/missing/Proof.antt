@@ -11,34 +11,41 @@ use Rattle.commands.proofs.Waiting.{missing-not, missing-first}
 use Rattle.commands.proofs.waits.missing.Statement.{statement}
 use Rattle.commands.proofs.waits.missing.Tie as tie
 
+-- places: where the first providers are asked for, from where the second are; and the start
+abbrev asked : tie.After-providers-arg2 → tie.After-shared-slice-known4
+asked c = let tested = c .before in tested .before .before .before
+
+abbrev begin : tie.After-shared-slice-known4 → tie.Start
+begin c = let back = c .before .before .before in back .before
+
 -- the entry's name stands in s
 within : (c : tie.Start) → (getD (c .args .given .now) (c .args .k) 0 / places ≤ getD (c .args .given .now) (c .args .k) 0 % places) × (getD (c .args .given .now) (c .args .k) 0 % places ≤ length (c .args .s .now))
 within c = c .pre .0 .within (c .args .k) (c .pre .1)
 
 sub-providers : tie.Need-sub-providers
-sub-providers c = within (c .before .before .before .before) .0
+sub-providers c = within (begin c) .0
 
 part-providers-start : tie.Need-part-providers-start
-part-providers-start c = within (c .before .before .before .before) .0
+part-providers-start c = within (begin c) .0
 
 part-providers-end : tie.Need-part-providers-end
-part-providers-end c = within (c .before .before .before .before) .1
+part-providers-end c = within (begin c) .1
 
 slice-aggregate-providers : tie.Need-slice-aggregate-providers
 slice-aggregate-providers c = sym (length-take-le _ _ (omega arith))
 
 sub-providers-2 : tie.Need-sub-providers-2
-sub-providers-2 c = within (c .before .before .before .before .before .before .before .before) .0
+sub-providers-2 c = within (begin (asked c)) .0
 
 part-providers-start-2 : tie.Need-part-providers-start-2
-part-providers-start-2 c = within (c .before .before .before .before .before .before .before .before) .0
+part-providers-start-2 c = within (begin (asked c)) .0
 
 part-providers-end-2 : tie.Need-part-providers-end-2
-part-providers-end-2 c = within (c .before .before .before .before .before .before .before .before) .1
+part-providers-end-2 c = within (begin (asked c)) .1
 
 providers-requires-2 : tie.Need-providers-requires-2
 providers-requires-2 c κs =
-    let s = c .before .before .before .before .before .before .before .before .before in
+    let s = begin (asked (c .before)) in
     given-take (s .args .k) (omega arith) (s .pre .0)
 
 returns : tie.Need-returns

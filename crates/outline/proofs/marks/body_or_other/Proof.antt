@@ -4,8 +4,8 @@ use mathlib.Core.Path.{_≡_, refl, sym, ap, _∙_}
 use Prim.Native.Nat.{ℕ}
 use Rattle.names.specs.Names.{Bytes}
 use Rattle.records.specs.Scan.{mark-index, body-marks}
+use Rattle.records.proofs.MarkedLaws.{no-body}
 use Rattle.outline.specs.Shape.{body-by-place, body-or-other, helper-or-other}
-use Rattle.outline.proofs.MarkLaws.{past-six}
 use Rattle.outline.proofs.marks.body_or_other.Statement.{statement}
 use Rattle.outline.proofs.marks.body_or_other.Tie as tie
 
@@ -42,7 +42,7 @@ returns-7 : tie.Need-returns-7
 unfolding body-by-place
 returns-7 c =
     let at-match = c .before in
-    c .helper-or-other .ensures ∙ known _ 6 refl (past-six _ body-marks refl (at-match .before .body-mark .ensures) (at-match .match .rest))
+    c .helper-or-other .ensures ∙ known _ 6 refl (no-body _ (at-match .before .body-mark .ensures) (at-match .match .rest))
 
 pub body-or-other-spec : {M : Type 1} → statement M
 body-or-other-spec =

@@ -4,8 +4,8 @@ use mathlib.Core.Path.{_≡_, refl, sym, ap, _∙_}
 use Prim.Native.Nat.{ℕ}
 use Rattle.names.specs.Names.{Bytes}
 use Rattle.records.specs.Scan.{mark-index, sexp-marks}
+use Rattle.records.proofs.SexpLaws.{none-of-five}
 use Rattle.outline.specs.Shape.{sexp-by-place, first-mark, body-or-other}
-use Rattle.outline.proofs.MarkLaws.{past-five}
 use Rattle.outline.proofs.marks.first_mark.Statement.{statement}
 use Rattle.outline.proofs.marks.first_mark.Tie as tie
 
@@ -38,7 +38,7 @@ returns-6 : tie.Need-returns-6
 unfolding sexp-by-place
 returns-6 c =
     let at-match = c .before in
-    c .body-or-other .ensures ∙ known _ 5 refl (past-five _ sexp-marks refl (at-match .before .sexp-mark .ensures) (at-match .match .rest))
+    c .body-or-other .ensures ∙ known _ 5 refl (none-of-five _ (at-match .before .sexp-mark .ensures) (at-match .match .rest))
 
 pub first-mark-spec : {M : Type 1} → statement M
 first-mark-spec =

@@ -4,8 +4,8 @@ use mathlib.Core.Path.{_≡_, refl, sym, ap, _∙_}
 use Prim.Native.Nat.{ℕ}
 use Rattle.names.specs.Names.{Bytes}
 use Rattle.records.specs.Scan.{mark-index, helper-marks}
+use Rattle.records.proofs.MarkedLaws.{no-helper}
 use Rattle.outline.specs.Shape.{helper-by-place, helper-or-other, binding-or-form}
-use Rattle.outline.proofs.MarkLaws.{past-five}
 use Rattle.outline.proofs.marks.helper_or_other.Statement.{statement}
 use Rattle.outline.proofs.marks.helper_or_other.Tie as tie
 
@@ -38,7 +38,7 @@ returns-6 : tie.Need-returns-6
 unfolding helper-by-place
 returns-6 c =
     let at-match = c .before in
-    c .binding-or-form .ensures ∙ known _ 5 refl (past-five _ helper-marks refl (at-match .before .helper-mark .ensures) (at-match .match .rest))
+    c .binding-or-form .ensures ∙ known _ 5 refl (no-helper _ (at-match .before .helper-mark .ensures) (at-match .match .rest))
 
 pub helper-or-other-spec : {M : Type 1} → statement M
 helper-or-other-spec =

@@ -28,14 +28,15 @@ tested c = c .before .before .before
 abbrev counted : lts.After-untouched calls reads.Pre reads.Post → lts.After-free-rounds calls reads.Pre reads.Post
 counted c = c .before .before .before
 
--- what the test of the bytes behind the result decides
-behind : (c : lts.After-untouched calls reads.Pre reads.Post) → let s = c .before .before .before .before .before .before .before .before .before .args in
-    Decides (c .untouched .result) (drop (s .a .len) (s .result .now) ≡ filling (length (drop (s .a .len) (s .result .now))))
-behind c =
+abbrev begin : lts.After-free-rounds calls reads.Pre reads.Post → lts.Start calls reads.Pre reads.Post
+begin c =
     let back = c .before .before .before in
-    let back-2 = back .before .before .before in
-    let at-start = back-2 .before .before .before in
-    let s = at-start .args in decides-rest (s .result .now) (s .a .len) (c .untouched .ensures)
+    back .before .before .before
+
+-- what the test of the bytes behind the result decides
+behind : (c : lts.After-untouched calls reads.Pre reads.Post) → let s = begin (counted c) .args in
+    Decides (c .untouched .result) (drop (s .a .len) (s .result .now) ≡ filling (length (drop (s .a .len) (s .result .now))))
+behind c = let s = begin (counted c) .args in decides-rest (s .result .now) (s .a .len) (c .untouched .ensures)
 
 returns-5 : tie.Need-returns-5
 returns-5 c =

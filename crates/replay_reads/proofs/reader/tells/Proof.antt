@@ -10,8 +10,12 @@ use Rattle.replay_reads.proofs.reader.tells.Tie as tie
 use Rattle.replay_reads.proofs.reader.tells.Reads as reads
 use Rattle.replay_reads.proofs.reader.tells.Lts as lts
 
+-- the start, from where a refusal is tested
+abbrev begin : lts.Joined2 reads.Pre reads.Post → lts.Start reads.Pre reads.Post
+begin c = let at-opening = c .before .before in at-opening .before .before
+
 -- a refusal is not 0 at 0
-some : (c : lts.Joined2 reads.Pre reads.Post) → c .before .before .before .before .args .number ≡ 0 → c .before .before .before .before .args .place ≡ 0 → ⊥
+some : (c : lts.Joined2 reads.Pre reads.Post) → begin c .args .number ≡ 0 → begin c .args .place ≡ 0 → ⊥
 some c q r = ⊎-elim (λ h. eqb-false _ _ (h .1 .left) r) (λ h. h .left q) (c .if2 .came)
 
 returns : tie.Need-returns
