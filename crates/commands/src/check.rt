@@ -5,9 +5,8 @@ use crate::file;
 use crate::refusal;
 use crate::say;
 use libc::STDOUT_FILENO;
-use outline::Around;
 use outline::ENTRY_WIDTH;
-use outline::index::index;
+use outline::index::index_input;
 use records::MOST_LONGEST;
 use records::Opening;
 use records::Wanted;
@@ -54,11 +53,6 @@ fn records_in(input: &[u8], mem: &mut [u8; INDEX]) -> usize
     requires { ⌜ length (now input) ≤ most-longest ⌝ }
     ensures { λ r. ⌜ RecordsIn (now (input .entry)) r ⌝ }
 {
-    let around = Around {
-        offset: 0,
-        depth: 0,
-        inside: false,
-    };
-    let r = index(input, mem, around);
+    let r = index_input(input, mem);
     r.count
 }

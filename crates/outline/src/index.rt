@@ -25,7 +25,7 @@ ghost use Prim.Native.Nat.{_≤_};
 ghost use lib.ListN.{length};
 ghost use Rattle.records.specs.Limits.{most-longest};
 ghost use Rattle.records.specs.Records.{mark-width};
-ghost use Rattle.outline.specs.Index.{under};
+ghost use Rattle.outline.specs.Index.{nothing-around, under};
 ghost use Rattle.outline.specs.Shape.{most-fields, FieldIs, FieldsAre, counted-to, IndexRoom, Indexes, Begun, IndexesOn, PastField};
 
 // The entries of the record that s starts with.
@@ -47,6 +47,19 @@ pub fn index(s: &[u8], mem: &mut [u8], a: Around) -> Counted
     };
     put_entry(mem, e);
     r
+}
+
+// The entries of a record that is a whole input: nothing stands around it.
+pub fn index_input(s: &[u8], mem: &mut [u8]) -> Counted
+    requires { ⌜ IndexRoom (now s) (now mem) nothing-around ⌝ }
+    ensures { λ r. ⌜ Indexes (now (s .entry)) (now (mem .entry)) (now (mem .exit)) nothing-around r ⌝ }
+{
+    let around = Around {
+        offset: 0,
+        depth: 0,
+        inside: false,
+    };
+    index(s, mem, around)
 }
 
 // Where the fields of a record stand: it is one more around them, and it may be a BM. The offset is

@@ -1,11 +1,10 @@
 // The call Page: a form on lines of one width, one record on each, in the sequence of the marks.
-use crate::Around;
 use crate::LINE_WIDTH;
 use crate::Label;
 use crate::Mark;
 use crate::NamePlace;
 use crate::entries::entry_at;
-use crate::index::index;
+use crate::index::index_input;
 use crate::marks::first_mark;
 use names::Answer;
 use names::call::accepted;
@@ -160,12 +159,7 @@ pub fn page_call(f: usize, work: &mut [u8], input: &[u8], result: &mut [u8]) -> 
     match opening {
         Opening::Refused(refusal) => refused(refusal, 0),
         Opening::Accepted => {
-            let whole = Around {
-                offset: 0,
-                depth: 0,
-                inside: false,
-            };
-            let c = index(input, work, whole);
+            let c = index_input(input, work);
             let n = c.count;
             let len = (LINE_WIDTH + 1) * n;
             if result.len() < len {

@@ -31,7 +31,7 @@ returns-4 c =
     let l = at-loop .loop in
     sym (l .inv .2 ∙ counter-high _ (l .n) (l .i) (omega arith) (at-if3 .if3 .left) (c .if4 .taken))
 
--- the bytes, the number with one more digit, and that the counter comes of it
+-- the bytes, the place of a digit, the number with it, and that the counter comes of it
 abbrev read : tie.Else4 Inv-loop μ-loop → Bytes
 read c =
     let back = c .before .before .before in
@@ -39,13 +39,18 @@ read c =
     let at-start = back-2 .before in
     at-start .args .text .now
 
+abbrev place : tie.Else4 Inv-loop μ-loop → ℕ
+place c =
+    let back = c .before .before .before in
+    back .before .loop .i
+
 abbrev next : tie.Else4 Inv-loop μ-loop → ℕ
 next c =
     let back = c .before .before .before in
     let at-loop = back .before in
     let l = at-loop .loop in 10 * l .n + (getD (read c) (l .i) 0 - 48)
 
-more : (c : tie.Else4 Inv-loop μ-loop) → counter-of (read c) ≡ counter-from (read c) (next c) (c .before .before .before .before .loop .i + 1)
+more : (c : tie.Else4 Inv-loop μ-loop) → counter-of (read c) ≡ counter-from (read c) (next c) (place c + 1)
 more c =
     let at-if3 = c .before in
     let at-loop = at-if3 .before .before .before in

@@ -22,26 +22,26 @@ bytes c i = omega (arith, c .before .before .shared-slice-known .given i)
 taken : (c : tie.After-enum-told) → let s = start (c .before .before) .args in TakenForm (s .f) (length (s .work .now)) (s .input .now) (s .result .now)
 taken c = let r = c .before .before in form-taken _ _ _ _ (bytes r) (sym (c .enum-told .given .1) ∙ r .read-input .ensures)
 
-index-requires : tie.Need-index-requires
-index-requires c κs = form-ready (taken (c .before)) refl
+index-input-requires : tie.Need-index-input-requires
+index-input-requires c κs = form-ready (taken (c .before)) refl
 
 mul-len : tie.Need-mul-len
 mul-len c =
     let i = c .before .before in
-    omega (arith, lines-few (taken (i .before .before)) (i .index .ensures))
+    omega (arith, lines-few (taken (i .before .before)) (i .index-input .ensures))
 
 returns : tie.Need-returns
 returns c =
     let tested = c .before .before in
     let i = tested .before .before .before in
-    c .refused2 .ensures _ ∙ page-refused (taken (i .before .before)) (i .index .ensures) (tested .if1 .taken) (c .before .placeless .ensures)
+    c .refused2 .ensures _ ∙ page-refused (taken (i .before .before)) (i .index-input .ensures) (tested .if1 .taken) (c .before .placeless .ensures)
 
 lay-out-requires : tie.Need-lay-out-requires
 lay-out-requires c κs =
     let tested = c .before .before in
     let i = tested .before .before .before in
     let t = taken (i .before .before) in
-    record { form = t .form; indexed = form-indexed t (i .index .ensures); short = t .short; room = tested .if1 .left }
+    record { form = t .form; indexed = form-indexed t (i .index-input .ensures); short = t .short; room = tested .if1 .left }
 
 returns-2 : tie.Need-returns-2
 returns-2 c =
@@ -55,7 +55,7 @@ returns-3 c =
     let tested = laid .before .before .before in
     let i = tested .before .before .before in
     let t = taken (i .before .before) in
-    page-accepted t (i .index .ensures) (tested .if1 .left) (laid .lay-out .ensures (t .form) (form-indexed t (i .index .ensures))) (c .accepted .ensures)
+    page-accepted t (i .index-input .ensures) (tested .if1 .left) (laid .lay-out .ensures (t .form) (form-indexed t (i .index-input .ensures))) (c .accepted .ensures)
 
 pub page-call-spec : {M : Type 1} → statement M
 page-call-spec =
@@ -65,7 +65,7 @@ page-call-spec =
     (λ c. search needs)
     (λ c κs. search needs)
     (λ c. search needs)
-    index-requires
+    index-input-requires
     (λ c. search needs)
     mul-len
     (λ c κs. search needs)

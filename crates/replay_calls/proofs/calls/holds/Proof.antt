@@ -26,7 +26,8 @@ returns-2 c =
 returns-3 : tie.Need-returns-3
 returns-3 c =
     let two = c .before .before in
-    let s = two .before .before .before .before .before .args in
+    let back = two .before .before .before in
+    let s = back .before .before .args in
     let front = front-of (s .mem .now) (s .wanted .now) (two .before .is-word .ensures) .only (not-false _ (two .if2 .left)) in
     decides-as
     (holds-made (s .mem .now) (s .wanted .now) (two .before .before .if1 .left) front)

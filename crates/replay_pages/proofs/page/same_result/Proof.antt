@@ -28,7 +28,7 @@ abbrev headed : lts.After-untouched calls reads.Pre reads.Post → lts.After-sam
 headed c = c .before .before .before
 
 abbrev begin : lts.After-same-head calls reads.Pre reads.Post → lts.Start calls reads.Pre reads.Post
-begin c = c .before .before .before .before
+begin c = let fits = c .before in fits .before .before .before
 
 -- what the test of the bytes behind the result decides
 behind : (c : lts.After-untouched calls reads.Pre reads.Post) → let s = begin (headed c) .args in
