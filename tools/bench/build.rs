@@ -1,4 +1,5 @@
-//! Links the static library of the calls and the reader, which the environment variable RENAME_LIB names.
+//! Links the static library of the calls and the reader, which the environment variable RENAME_LIB names; and beside it, if
+//! RENAME_LIB_BEFORE names one, that of another release (`before-after.sh`).
 
 use std::env;
 use std::path::{Path, PathBuf};
@@ -7,11 +8,20 @@ const DEFAULT_LIBRARY: &str = "../../target/staticlib/libexports.a";
 
 fn main() {
     println!("cargo:rerun-if-env-changed=RENAME_LIB");
+    println!("cargo:rerun-if-env-changed=RENAME_LIB_BEFORE");
     println!("cargo:rerun-if-changed=build.rs");
-    let library = library();
+    println!("cargo:rustc-check-cfg=cfg(before)");
+    link(&library());
+    if let Ok(before) = env::var("RENAME_LIB_BEFORE") {
+        link(Path::new(&before));
+        println!("cargo:rustc-cfg=before");
+    }
+}
+
+fn link(library: &Path) {
     println!("cargo:rerun-if-changed={}", library.display());
-    let (Some(folder), Some(name)) = (library.parent(), archive_name(&library)) else {
-        stop(&format!("RENAME_LIB is no path to a libNAME.a: {}", library.display()));
+    let (Some(folder), Some(name)) = (library.parent(), archive_name(library)) else {
+        stop(&format!("this is no path to a libNAME.a: {}", library.display()));
     };
     if !library.is_file() {
         stop(&format!("there is no {}: 'rt staticlib exports' makes it, or RENAME_LIB names another", library.display()));

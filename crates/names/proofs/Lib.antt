@@ -1,4 +1,6 @@
 pub mod CallAnswers
+pub mod Compare
+mod CompareCases
 pub mod Digits
 pub mod Fields
 pub mod Frames

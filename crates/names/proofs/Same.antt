@@ -1,14 +1,12 @@
--- `same` says whether two names are equal, and how it goes byte by byte. Assumes nothing.
+-- `same` says whether two names are equal. Assumes nothing.
 use mathlib.Core.Path.{_≡_, refl, sym, ap, _∙_}
 use mathlib.Core.Bool.{Bool, true, false, _&&_}
 use mathlib.Core.List.{[], _∷_}
-use native.Mathlib.Numerals.{add-one}
 use native.Mathlib.Omega.{arith}
-use Prim.Native.Nat.{ℕ, suc, _+_, _≤_, _<_}
-use borrow.Author.Tests.{eq-eqb, ne-eqb}
-use lib.Dec.{T, eqb, eqb→eq, eqb-refl, eqb·suc-zero}
-use lib.ListN.{length, take, drop, getD, length-take, drop-of-length-le}
-use lib.Seq.{drop-cons}
+use Prim.Native.Nat.{suc, _<_}
+use borrow.Author.Tests.{eq-eqb}
+use lib.Dec.{T, eqb, eqb→eq, eqb·suc-zero}
+use lib.ListN.{length, take, length-take}
 use Rattle.names.specs.Names.{Bytes, same}
 
 -- two tests joined
@@ -34,10 +32,13 @@ same→eq (x ∷ xs) (y ∷ ys) t =
     let q : xs ≡ ys = same→eq xs ys (T-right (eqb x y) (same xs ys) t) in
     cc
 
-pub same-refl : (x : Bytes) → T (same x x)
+pub same-self : (x : Bytes) → same x x ≡ true
 unfolding same
-same-refl [] = tt
-same-refl (x ∷ xs) = T-both (eqb x x) (same xs xs) (eqb-refl x) (same-refl xs)
+same-self [] = refl
+same-self (x ∷ xs) = rw (eq-eqb x x refl) (same-self xs)
+
+pub same-refl : (x : Bytes) → T (same x x)
+same-refl x = rw (same-self x) tt
 
 -- names of two lengths
 pub same-lengths : (a b : Bytes) → (length a ≡ length b → ⊥) → same a b ≡ false
@@ -58,19 +59,3 @@ same-few a [] h = refl
 same-few a (y ∷ ys) h =
     let l = length-take (length (y ∷ ys)) a in
     same-lengths (take (length (y ∷ ys)) a) (y ∷ ys) (λ e. omega (arith, h (omega arith))) ∙ sym (eqb·suc-zero (length ys))
-
--- from a place on: byte by byte, and at the end of both
-module _ (a b : Bytes) (i : ℕ) where
-  same-at : i < length a → i < length b → same (drop i a) (drop i b) ≡ (eqb (getD a i 0) (getD b i 0) && same (drop (i + 1) a) (drop (i + 1) b))
-  unfolding same
-  same-at la lb = rw (add-one, drop-cons a i 0 la, drop-cons b i 0 lb)
-
-  pub same-go : i < length a → i < length b → getD a i 0 ≡ getD b i 0 → same (drop (i + 1) a) (drop (i + 1) b) ≡ same (drop i a) (drop i b)
-  same-go la lb e = sym (same-at la lb ∙ ap (λ (t : Bool). t && same (drop (i + 1) a) (drop (i + 1) b)) (eq-eqb _ _ e))
-
-  pub same-stop : i < length a → i < length b → (getD a i 0 ≡ getD b i 0 → ⊥) → same (drop i a) (drop i b) ≡ false
-  same-stop la lb e = same-at la lb ∙ ap (λ (t : Bool). t && same (drop (i + 1) a) (drop (i + 1) b)) (ne-eqb _ _ e)
-
-  pub same-end : length a ≤ i → length b ≤ i → same (drop i a) (drop i b) ≡ true
-  unfolding same
-  same-end la lb = rw (drop-of-length-le a la, drop-of-length-le b lb)

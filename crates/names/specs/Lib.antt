@@ -1,4 +1,5 @@
 pub mod Names
+pub mod Compare
 pub mod Maps
 pub mod Segments
 pub mod Refusals

@@ -1,26 +1,47 @@
 // Bytes compared, written, read and moved at a place.
+use crate::Compared;
 use crate::NAME_WIDTH;
 ghost use mathlib.Core.Path.{_≡_};
 ghost use Prim.Native.Nat.{_+_, _^_, _≤_, _<_};
 ghost use lib.ListN.{length, take, drop};
+ghost use Rattle.names.specs.Compare.{comparison};
 ghost use Rattle.names.specs.Names.{same, number-field, number-of, name-limit, name-field};
 ghost use Rattle.names.specs.Segments.{Filled, Movable};
+
+// Compares two names: their lengths, and then their bytes from the last to the first.
+pub fn compare(a: &[u8], b: &[u8]) -> Compared
+    ensures { λ r. ⌜ r ≡ comparison (now (a .entry)) (now (b .entry)) ⌝ }
+{
+    let len = a.len();
+    if len != b.len() {
+        return Compared {
+            equal: false,
+            pairs: 0,
+        };
+    }
+    let mut ending = 0;
+    while ending < len {
+        let i = len - 1 - ending;
+        if a[i] != b[i] {
+            return Compared {
+                equal: false,
+                pairs: ending + 1,
+            };
+        }
+        ending += 1;
+    }
+    Compared {
+        equal: true,
+        pairs: ending,
+    }
+}
 
 // Whether two names are equal.
 pub fn same(a: &[u8], b: &[u8]) -> bool
     ensures { λ r. ⌜ r ≡ same (now (a .entry)) (now (b .entry)) ⌝ }
 {
-    if a.len() != b.len() {
-        return false;
-    }
-    let mut i = 0;
-    while i < a.len() {
-        if a[i] != b[i] {
-            return false;
-        }
-        i += 1;
-    }
-    true
+    let c = compare(a, b);
+    c.equal
 }
 
 // Whether a word stands in s at a place. Where too few bytes are left only the empty word does.

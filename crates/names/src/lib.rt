@@ -17,6 +17,12 @@ pub const NAME_LIMIT: usize = 255;
 // The largest counter that a call takes.
 pub const MAX_COUNTER: u64 = 4294967295;
 
+// What comparing two names answers: whether they are equal, and how many byte pairs were read.
+pub struct Compared {
+    pub equal: bool,
+    pub pairs: usize,
+}
+
 // A place: the offset of a byte in the input, or a location.
 pub struct Place {
     pub start: u64,

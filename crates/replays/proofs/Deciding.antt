@@ -4,8 +4,8 @@ use mathlib.Core.Path.{_≡_, refl}
 use native.Mathlib.Omega.{arith}
 use Prim.Native.Nat.{ℕ, _≤_}
 use borrow.Author.Tests.{eq-eqb, eqb-true, le-leb, leb-true}
-use lib.Dec.{T, eqb, leb}
-use Rattle.names.proofs.Same.{same→eq, same-refl}
+use lib.Dec.{eqb, leb}
+use Rattle.names.proofs.Same.{same→eq, same-self}
 use Rattle.names.specs.Names.{Bytes, same}
 use Rattle.names.specs.Refusals.{place-at, refusing}
 use Rattle.names.specs.declared.Refusal.{Refusal}
@@ -27,11 +27,7 @@ pub decides-equal : (m n : ℕ) → Decides (eqb m n) (m ≡ n)
 decides-equal m n = record { only = eqb-true m n; all = eq-eqb m n }
 
 pub decides-same : (x y : Bytes) → Decides (same x y) (x ≡ y)
-decides-same x y = record { only = λ e. same→eq x y (rw e tt); all = λ e. rw e (true-of (same y y) (same-refl y)) }
-  where
-    true-of : (t : Bool) → T t → t ≡ true
-    true-of true h = refl
-    true-of false h = absurd h
+decides-same x y = record { only = λ e. same→eq x y (rw e tt); all = λ e. rw e (same-self y) }
 
 -- two numbers are equal exactly where A holds
 pub decides-by : {A : Type 0} (m n : ℕ) → (m ≡ n → A) → (A → m ≡ n) → Decides (eqb m n) A

@@ -14,7 +14,8 @@ const LAMBDAS: usize = 6;
 /// Each form with what it is.
 pub fn all() -> Vec<(&'static str, Form)> {
     vec![
-        ("payout", payout(PAYEES)),
+        ("payout", payout(PAYEES, "")),
+        ("payment_to_", payout(PAYEES, "payment_to_the_treasury_of_the_club_")),
         ("nested lets", nested_lets(LETS)),
         ("a lambda", lambdas(1)),
         ("3 lambdas", lambdas(3)),
@@ -37,26 +38,28 @@ fn applied(name: &str, first: Body, second: Body) -> Body {
     call(vec![var(name), first, second])
 }
 
-/// Amounts, a rate, and for each payee an assign of the fee and of what is left; the body makes a coin of each.
-fn payout(payees: usize) -> Form {
-    let (amounts, keys) = (of_each("amount", payees), of_each("key", payees));
+/// Amounts, a rate, and for each payee an assign of the fee and of what is left; the body makes a coin of each. All names of its own
+/// begin alike.
+fn payout(payees: usize, beginning: &str) -> Form {
+    let named = |word: &str| format!("{beginning}{word}");
+    let (amounts, keys) = (of_each(&named("amount"), payees), of_each(&named("key"), payees));
     let mut bindings = Vec::new();
     for (index, amount) in amounts.iter().enumerate() {
-        let (amount, fee) = (var(amount), format!("fee-{index}"));
+        let (amount, fee) = (var(amount), named(&format!("fee-{index}")));
         let rest = applied("-", amount.clone(), var(&fee));
-        bindings.push(complex(atom(&format!("rest-{index}")), rest));
-        bindings.push(complex(atom(&fee), call(vec![var("fee-of"), amount, var("rate")])));
+        bindings.push(complex(atom(&named(&format!("rest-{index}"))), rest));
+        bindings.push(complex(atom(&fee), call(vec![var("fee-of"), amount, var(&named("rate"))])));
     }
     let coin = |index: usize| {
-        let made = call(vec![var("list"), number(51), var(&keys[index]), var(&format!("rest-{index}"))]);
+        let made = call(vec![var("list"), number(51), var(&keys[index]), var(&named(&format!("rest-{index}")))]);
         applied("c", made, number(0))
     };
     let mut elements = vec![var("list")];
     elements.extend((0..payees).map(coin));
-    let share = applied("/", applied("*", var("amount"), var("rate")), number(100));
+    let share = applied("/", applied("*", var(&named("amount")), var(&named("rate"))), number(100));
     let head = Head { loc: 1, name: b"fee-of".to_vec(), rest: Vec::new() };
-    let helper = Helper::HD(head, true, args(&["amount".to_string(), "rate".to_string()]), share);
-    let names = [vec!["rate".to_string()], amounts.clone(), keys.clone()].concat();
+    let helper = Helper::HD(head, true, args(&[named("amount"), named("rate")]), share);
+    let names = [vec![named("rate")], amounts.clone(), keys.clone()].concat();
     Form { args: args(&names), helpers: vec![helper], ..form_of(body_of(let_of(Kind::Assign, bindings, call(elements)))) }
 }
 

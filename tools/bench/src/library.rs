@@ -8,10 +8,10 @@ use oracle::reads::Asked;
 pub type Open = fn(Asked, &[u8], usize) -> Refusal;
 
 /// What a call tells beside its number: place, counter, rounds, length.
-type Told = [u64; 4];
+pub type Told = [u64; 4];
 
 /// A call that takes F, work memory, the counter, an input and a result buffer.
-type Walking = unsafe extern "C" fn(usize, *mut u8, usize, u64, *const u8, usize, *mut u8, usize, *mut Told) -> u32;
+pub type Walking = unsafe extern "C" fn(usize, *mut u8, usize, u64, *const u8, usize, *mut u8, usize, *mut Told) -> u32;
 
 extern "C" {
     /// Reads an input of a kind (0 a form, 1 a helper, 2 an assign) with this F. Gives the number, and the place through `place`.
@@ -105,17 +105,33 @@ pub struct Answered {
 
 /// The call of a case on an input, in work memory of just the length that the case says.
 pub fn call(case: &Case, work: &mut [u8], input: &[u8], result: &mut [u8]) -> Answered {
+    match walking(case.call) {
+        Some(run) => walked(run, case, work, input, result),
+        None => named(case, input, result),
+    }
+}
+
+/// A call that takes a record, on an input.
+pub fn walked(run: Walking, case: &Case, work: &mut [u8], input: &[u8], result: &mut [u8]) -> Answered {
     let mut told = [u64::MAX; 4];
-    let number = match walking(case.call) {
-        // SAFETY: each pointer and length are one slice's, no two of them overlap, and the four numbers live through the call.
-        Some(run) => unsafe {
-            let (f, counter) = (case.f as usize, case.counter);
-            let (work, work_len) = (work.as_mut_ptr(), work.len());
-            run(f, work, work_len, counter, input.as_ptr(), input.len(), result.as_mut_ptr(), result.len(), &mut told)
-        },
-        // SAFETY: the same.
-        None => unsafe { rename_name(input.as_ptr(), input.len(), case.counter, result.as_mut_ptr(), result.len(), &mut told) },
+    // SAFETY: each pointer and length are one slice's, no two of them overlap, and the four numbers live through the call.
+    let number = unsafe {
+        let (f, counter) = (case.f as usize, case.counter);
+        let (work, work_len) = (work.as_mut_ptr(), work.len());
+        run(f, work, work_len, counter, input.as_ptr(), input.len(), result.as_mut_ptr(), result.len(), &mut told)
     };
+    answered(number, told)
+}
+
+/// The call Name on a name.
+fn named(case: &Case, name: &[u8], result: &mut [u8]) -> Answered {
+    let mut told = [u64::MAX; 4];
+    // SAFETY: the same.
+    let number = unsafe { rename_name(name.as_ptr(), name.len(), case.counter, result.as_mut_ptr(), result.len(), &mut told) };
+    answered(number, told)
+}
+
+fn answered(number: u32, told: Told) -> Answered {
     let [place, counter, rounds, len] = told;
     Answered { number: number.into(), place, counter, rounds, len }
 }
@@ -128,8 +144,7 @@ pub fn page(f: usize, work: &mut [u8], input: &[u8], result: &mut [u8]) -> Answe
         let (work, work_len) = (work.as_mut_ptr(), work.len());
         rename_page(f, work, work_len, input.as_ptr(), input.len(), result.as_mut_ptr(), result.len(), &mut told)
     };
-    let [place, counter, rounds, len] = told;
-    Answered { number: number.into(), place, counter, rounds, len }
+    answered(number, told)
 }
 
 /// The function of a call that takes a record; Name takes none.

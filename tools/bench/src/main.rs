@@ -1,6 +1,8 @@
 //! The proved record reader beside a plain Rust one, and the proved calls beside Chialisp's Rust: their speed, and their answers.
 
 mod agree;
+#[cfg(before)]
+mod before_after;
 mod calls;
 mod drawn;
 mod guarded;
@@ -9,6 +11,8 @@ mod order_speed;
 mod orders;
 mod pages;
 mod plain;
+#[cfg(before)]
+mod releases;
 mod speed;
 mod whole_speed;
 
@@ -26,7 +30,8 @@ const HELP: &str = "bench COMMAND ..
   pages --count N --seed S    N forms, whole and damaged: the answers of the call Page against the oracle's
   order-speed                 microseconds that ordering an assign of 10 or 64 bindings takes the library and Chialisp's Rust
   whole [--seed S]            nanoseconds for a byte of Whole form, from bytes to bytes, beside Chialisp's Rust on built trees and
-                              with reading and writing";
+                              with reading and writing
+  before-after [--seed S]     two releases, which before-after.sh links: nanoseconds for a lookup, and for a byte of Whole form";
 
 fn main() -> ExitCode {
     let words: Vec<String> = std::env::args().skip(1).collect();
@@ -53,12 +58,24 @@ fn command(words: &[&str]) -> Result<(), String> {
         ["order-speed"] => order_speed::speed(),
         ["whole"] => whole_speed::speed(1),
         ["whole", "--seed", seed] => whole_speed::speed(number(seed)?),
+        ["before-after"] => before_after(1),
+        ["before-after", "--seed", seed] => before_after(number(seed)?),
         [] | ["help" | "--help" | "-h"] => {
             println!("{HELP}");
             Ok(())
         }
         _ => Err(format!("no such command; see 'bench help': {}", words.join(" "))),
     }
+}
+
+#[cfg(before)]
+fn before_after(seed: u64) -> Result<(), String> {
+    before_after::speed(seed)
+}
+
+#[cfg(not(before))]
+fn before_after(_: u64) -> Result<(), String> {
+    Err("only one release is linked: before-after.sh links two".to_string())
 }
 
 fn number(word: &str) -> Result<u64, String> {

@@ -25,20 +25,27 @@ const HELPER_BUDGET: usize = 14;
 /// Bytes that one run reads.
 const RUN_BYTES: usize = 256 * 1024;
 
-/// Forms of three sizes from the generator, the longest of many helpers; then drawn ones.
+/// A line for each size of generated forms, the longest of many helpers, and for each drawn one.
 pub fn speed(seed: u64) -> Result<(), String> {
     let head = ["forms", "bytes in", "bytes out", "call ns/B", "trees ns/B", "same ns/B", "trees / call", "same / call"];
     println!("{:>14} {}", "", head.map(|word| format!("{word:>12}")).join(" "));
+    all_forms(seed).iter().try_for_each(|(what, forms)| row(what, forms))
+}
+
+/// Forms that are timed together.
+pub type Forms = Vec<Bytes>;
+
+/// Forms of three sizes from the generator, and each drawn one alone, with what they are.
+pub fn all_forms(seed: u64) -> Vec<(&'static str, Forms)> {
     let mut maker = Maker::seeded(seed);
-    for (what, least, most) in SIZES {
-        row(what, &forms(&mut maker, least, most))?;
-    }
-    row("about 16,000", &long_forms(&mut maker))?;
-    drawn::all().iter().try_for_each(|(what, form)| row(what, &[form.bytes()]))
+    let mut all: Vec<(&str, Forms)> = SIZES.iter().map(|&(what, least, most)| (what, forms(&mut maker, least, most))).collect();
+    all.push(("about 16,000", long_forms(&mut maker)));
+    all.extend(drawn::all().into_iter().map(|(what, form)| (what, vec![form.bytes()])));
+    all
 }
 
 /// A case of Whole form in which F and the buffer are the largest.
-fn case(input: &[u8]) -> Case {
+pub fn case(input: &[u8]) -> Case {
     let f = MAX_F;
     Case { call: Call::Whole, f, work: WORK_PER_F * f, counter: 0, buffer: f as usize, input: input.to_vec() }
 }
@@ -49,7 +56,7 @@ fn written(input: &[u8]) -> Option<usize> {
 }
 
 /// Accepted forms of a size.
-fn forms(maker: &mut Maker, least: usize, most: usize) -> Vec<Bytes> {
+fn forms(maker: &mut Maker, least: usize, most: usize) -> Forms {
     let mut forms = Vec::new();
     let mut total = 0;
     while total < POOL {
@@ -64,7 +71,7 @@ fn forms(maker: &mut Maker, least: usize, most: usize) -> Vec<Bytes> {
 }
 
 /// Accepted forms of many helpers, whose results are about as long as F allows.
-fn long_forms(maker: &mut Maker) -> Vec<Bytes> {
+fn long_forms(maker: &mut Maker) -> Forms {
     let mut forms = Vec::new();
     while forms.len() * LONG < POOL {
         let mut form = maker.some_form(2);
