@@ -1,7 +1,7 @@
 //! Two releases of the library in one run: nanoseconds for a lookup in maps of many sizes, and for a byte of Whole form.
 
 use crate::library::Answered;
-use crate::order_speed::best;
+use crate::order_speed::best_of;
 use crate::releases::{self, Release};
 use crate::whole_speed::{self, Forms};
 use oracle::answers::{Case, MAX_F, WORK_PER_F};
@@ -15,10 +15,12 @@ const ENTRIES: [usize; 4] = [1, 8, 64, 400];
 const SHARED: [(usize, usize); 4] = [(0, 0), (8, 0), (200, 0), (0, 200)];
 /// The letters in which names differ.
 const LETTERS: usize = 4;
+/// Runs of each, many and short: some meet a machine that does nothing else.
+const RUNS: usize = 400;
 /// Entries that one run goes by, at most.
 const RUN_ENTRIES: usize = 40_000;
 /// Bytes that one run renames.
-const RUN_BYTES: usize = 256 * 1024;
+const RUN_BYTES: usize = 64 * 1024;
 
 pub fn speed(seed: u64) -> Result<(), String> {
     let head = ["entries", "beginning", "ending", "before ns", "after ns", "after/before"];
@@ -66,7 +68,7 @@ fn lookups(random: &mut Random, entries: usize, beginning: usize, ending: usize)
     }
     let run = |release: &Release| asked.iter().all(|name| black_box(release.lookup(black_box(name), &map)) < usize::MAX);
     let [before, after] = &releases::BOTH;
-    let seconds = best(&mut [&mut || run(before), &mut || run(after)], RUN_ENTRIES.div_ceil(entries * asked.len()));
+    let seconds = best_of(RUNS, &mut [&mut || run(before), &mut || run(after)], RUN_ENTRIES.div_ceil(entries * asked.len()));
     let [before, after] = seconds.map(|seconds| seconds * 1e9 / asked.len() as f64);
     println!("{entries:>12} {beginning:>12} {ending:>12} {before:>12.1} {after:>12.1} {:>12.2}", after / before);
     Ok(())
@@ -104,7 +106,8 @@ fn passes(what: &str, forms: &Forms) -> Result<(), String> {
         }
     }
     let total: usize = forms.iter().map(Vec::len).sum();
-    let seconds = best(&mut [&mut || before.accepts(&cases), &mut || after.accepts(&cases)], RUN_BYTES.div_ceil(total.max(1)));
+    let times = RUN_BYTES.div_ceil(total.max(1));
+    let seconds = best_of(RUNS, &mut [&mut || before.accepts(&cases), &mut || after.accepts(&cases)], times);
     let [before, after] = seconds.map(|seconds| seconds * 1e9 / total as f64);
     println!("{what:>14} {:>12} {:>12} {before:>12.2} {after:>12.2} {:>12.2}", forms.len(), total / forms.len(), after / before);
     Ok(())

@@ -66,10 +66,15 @@ fn same_answers(case: &Case, work: &mut [u8], result: &mut [u8]) -> Result<(), S
     }
 }
 
-/// The seconds of each in its best of several runs of so many times. The runs take turns, so that all meet the same machine.
+/// The seconds of each in its best of several runs of so many times.
 pub fn best<const N: usize>(runs: &mut [&mut dyn FnMut() -> bool; N], times: usize) -> [f64; N] {
+    best_of(RUNS, runs, times)
+}
+
+/// The seconds of each in its best of `count` runs of so many times. The runs take turns, so that all meet the same machine.
+pub fn best_of<const N: usize>(count: usize, runs: &mut [&mut dyn FnMut() -> bool; N], times: usize) -> [f64; N] {
     let mut best = [f64::MAX; N];
-    for _ in 0..RUNS {
+    for _ in 0..count {
         for (best, run) in best.iter_mut().zip(runs.iter_mut()) {
             let start = Instant::now();
             (0..times).for_each(|_| assert!(black_box(run())));
