@@ -11,7 +11,7 @@ revision=$1
 shift
 out=$PWD/target/before-after
 
-# the crates that standard input holds, with the lookup, as a library: built STAGE
+# build SIDE: the static library of the crates that standard input holds as an archive, with the lookup
 build() {
   mkdir -p "$out/$1"
   rm -rf "$out/$1/crates"
