@@ -8,7 +8,7 @@
  *   It returns 0 if it accepts, or the number of its refusal (below), and fills `told`:
  *     told[RENAME_PLACE]    0; of a refusal 2, 3 or 4 the offset in the input, of 5 the location of the assign
  *     told[RENAME_COUNTER]  the counter for the next call; of a refusal the counter given
- *     told[RENAME_ROUNDS]   in rename_order the turns that placed a binding; else 0
+ *     told[RENAME_ROUNDS]   in rename_order the rounds of the order; else 0
  *     told[RENAME_LENGTH]   how many bytes were written, at the front of `result`; of a refusal 0
  *   Only refusal 5 of rename_order writes something too.
  *   No byte of `result` behind those written is changed. What stood in `result` and `told` before the call does not matter.

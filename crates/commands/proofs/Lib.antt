@@ -1,5 +1,6 @@
 pub mod Counters
 pub mod Given
+pub mod Readiness
 pub mod Records
 pub mod Refusals
 pub mod Waiting

@@ -1,4 +1,5 @@
 pub mod Counters
+pub mod Ready
 pub mod Records
 pub mod Refusals
 pub mod Waiting

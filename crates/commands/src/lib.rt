@@ -3,6 +3,7 @@
 // Results go to standard output. What is refused, and what is wrong with an argument or a file, goes
 // to the descriptor that a command is given.
 pub mod check;
+mod columns;
 pub mod counter;
 pub mod file;
 pub mod kind;
@@ -10,6 +11,7 @@ pub mod name;
 pub mod order;
 pub mod page;
 mod provided;
+mod ready;
 pub mod refusal;
 pub mod say;
 mod waits;

@@ -1,8 +1,11 @@
-// `rename order FILE F`: the call Order. The stuck bindings are shown with the refusal.
+// `rename order FILE F`: the call Order. The rounds are shown as columns, and the stuck bindings with
+// the refusal.
 use crate::MOST_READ;
 use crate::WORK;
+use crate::columns;
 use crate::file;
 use crate::provided;
+use crate::ready::ready;
 use crate::refusal;
 use crate::say;
 use crate::waits;
@@ -48,8 +51,7 @@ fn ordered(to: i32, s: &[u8], f: usize, work: &mut [u8; WORK]) {
     if number == 0 && len == 0 {
         say::text(STDOUT_FILENO, b"ordered: there are no bindings\n");
     } else if number == 0 {
-        say::text(STDOUT_FILENO, b"ordered, first to last:\n");
-        told(STDOUT_FILENO, s, f, &row[..len], false);
+        told(STDOUT_FILENO, s, f, &row[..len], a.rounds);
     } else {
         refusal::print(to, refusal, false, s.len() > f);
         if number == 5 {
@@ -57,22 +59,22 @@ fn ordered(to: i32, s: &[u8], f: usize, work: &mut [u8; WORK]) {
                 to,
                 b"stuck, each waiting for names that only stuck bindings provide:\n",
             );
-            told(to, s, f, &row[..len], true);
+            told(to, s, f, &row[..len], 0);
         }
     }
 }
 
-// Prints the bindings of a row: an order, or the stuck ones. The input is opened once more, to say
-// that an assign stands in it.
-fn told(to: i32, s: &[u8], f: usize, row: &[u8], stuck: bool) {
+// Prints the bindings of a row: an order in so many rounds, or with no rounds the stuck ones. The
+// input is opened once more, to say that an assign stands in it.
+fn told(to: i32, s: &[u8], f: usize, row: &[u8], rounds: u64) {
     match open_input(Wanted::Assign, f, WORK, 0, s) {
         Opening::Refused(refusal) => refusal::print(to, refusal, false, s.len() > f),
-        Opening::Accepted => names(to, s, row, stuck),
+        Opening::Accepted => names(to, s, row, rounds),
     }
 }
 
 // Lists the names that the bindings of an assign provide, and prints those of a row.
-fn names(to: i32, s: &[u8], row: &[u8], stuck: bool)
+fn names(to: i32, s: &[u8], row: &[u8], rounds: u64)
     requires { ⌜ length (now s) ≤ most-longest ⌝ }
     requires { ⌜ ((k : Kind) × (l : Loc) × (w : Bytes) × (h : Bytes) × (bs : Bindings) × (b : Body) × Let (now s) k l w h bs b) ⌝ }
 {
@@ -81,11 +83,19 @@ fn names(to: i32, s: &[u8], row: &[u8], stuck: bool)
     let mut given = [0usize; NEED_LIMIT];
     let mut bodies = [0usize; BINDING_LIMIT];
     let n = find_names(s, v.first, &mut given, &mut bodies[..count]);
-    if stuck {
+    if rounds == 0 {
         print_stuck(to, s, &given[..n], &bodies, bits_of(row));
     } else {
-        print_ordered(to, s, &given[..n], row);
+        print_ordered(to, s, &given[..n], &bodies, row, rounds);
     }
+}
+
+// The bit of an index.
+fn bit(i: u8) -> u64 {
+    if i < COUNT_LIMIT {
+        return 1u64 << i;
+    }
+    0
 }
 
 // The indices of a row as bits.
@@ -93,19 +103,38 @@ fn bits_of(row: &[u8]) -> u64 {
     let mut bits = 0;
     let mut k = 0;
     while k < row.len() {
-        if row[k] < COUNT_LIMIT {
-            bits |= 1u64 << row[k];
-        }
+        bits |= bit(row[k]);
         k += 1;
     }
     bits
 }
 
-// Prints the bindings in their order, one in each line.
-fn print_ordered(to: i32, s: &[u8], given: &[usize], row: &[u8]) {
+// Whether all that a binding needs is provided by the bindings `before`, given as bits.
+fn met(s: &[u8], given: &[usize], bodies: &[usize], index: usize, before: u64) -> bool
+    requires { ⌜ Given (now s) (now given) ⌝ }
+{
+    index < bodies.len() && ready(s, given, bodies[index], before)
+}
+
+// Prints the bindings in their order, one in each line, marked in the column of its round: a binding
+// that needs more than the columns before provide begins the next.
+fn print_ordered(to: i32, s: &[u8], given: &[usize], bodies: &[usize], row: &[u8], rounds: u64)
+    requires { ⌜ Given (now s) (now given) ⌝ }
+{
+    columns::head(to, rounds);
+    let mut before = 0;
+    let mut seen = 0;
+    let mut column = 1;
     let mut k = 0;
     while k < row.len() {
-        print_binding(to, s, given, row[k] as usize);
+        let index = row[k] as usize;
+        if !met(s, given, bodies, index, before) {
+            before = seen;
+            column += 1;
+        }
+        seen |= bit(row[k]);
+        columns::mark(to, column, rounds);
+        print_binding(to, s, given, index);
         say::text(to, b"\n");
         k += 1;
     }

@@ -28,7 +28,7 @@ use Rattle.ordering.specs.Assign.{no-binding, need-limit, body-of, body-
 use Rattle.ordering.specs.Provisions.{Provisions, Added, ListsNames}
 use Rattle.ordering.specs.Listing.{all-words}
 use Rattle.ordering.specs.Needs.{binding-limit, Starts, outcome-of}
-use Rattle.ordering.specs.Toposort.{rounds}
+use Rattle.ordering.specs.Rounds.{rounds}
 use Rattle.ordering.specs.Words.{pattern-provides, words, items, toposort-assign-bindings}
 use Rattle.ordering.proofs.EntryLaws.{entries-length}
 use Rattle.ordering.proofs.Few.{few-entries, few-needs, few-words}
@@ -238,8 +238,8 @@ pub starts-of : {needs starts : List ℕ} {m : ℕ} (n : ℕ) → m ≡ n → St
 starts-of {needs} {starts} n e h = subst (λ (k : ℕ). Starts k needs starts) e h
 
 -- an order in an array that is longer than it
-pub ordered-in : {s : Bytes} {at count placed turns : ℕ} {bs : List Binding} (row zeros : List ℕ) → Bound s at count bs → length row ≡ count → length zeros ≡ binding-limit → count ≤ binding-limit → placed ≤ length row
-    → (toposort-assign-bindings bs ≡ outcome-of row placed) × (turns ≡ rounds (items bs)) → OrdersBindings bs (record { row = row ++ drop count zeros; count = count; placed = placed; rounds = turns })
+pub ordered-in : {s : Bytes} {at count placed n : ℕ} {bs : List Binding} (row zeros : List ℕ) → Bound s at count bs → length row ≡ count → length zeros ≡ binding-limit → count ≤ binding-limit → placed ≤ length row
+    → (toposort-assign-bindings bs ≡ outcome-of row placed) × (n ≡ rounds (items bs)) → OrdersBindings bs (record { row = row ++ drop count zeros; count = count; placed = placed; rounds = n })
 unfolding toposort-assign-bindings
 ordered-in {count = count} {placed} {bs = bs} row zeros b e z le h o =
     let t : take count (row ++ drop count zeros) ≡ row = take-at row (drop count zeros) count e in
@@ -249,6 +249,6 @@ ordered-in {count = count} {placed} {bs = bs} row zeros b e z le h o =
       row = omega (arith, length-append row (drop count zeros), length-drop count zeros);
       placed = omega arith;
       order = rw t (o .0);
-      turns = o .1;
+      rounds = o .1;
       means = rw (t, ← o .0) (means (items bs));
     }

@@ -1,5 +1,5 @@
 pub mod OrderAnswers
-mod Bits
+pub mod Bits
 mod Bodies
 pub mod Bound
 pub mod Collected
@@ -22,3 +22,5 @@ mod Sexps
 mod Swap
 mod Tests
 pub mod Toposort
+mod Turned
+mod InRounds

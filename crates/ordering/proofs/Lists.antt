@@ -2,14 +2,15 @@
 -- Assumes nothing.
 use Prim.Native.Nat.{ℕ, zero, suc, _≤_, _<_, zero-le, suc-le-suc}
 use native.Mathlib.Nat.{not-suc-le-zero, le-of-suc-le-suc}
-use mathlib.Core.Path.{_≡_, refl, sym, subst}
+use native.Mathlib.Omega.{arith}
+use mathlib.Core.Path.{_≡_, refl, sym, ap, subst}
 use mathlib.Core.Logic.{_⊎_, inl, inr, ⊎-elim}
 use mathlib.Core.Bool.{Bool, true, false, not, cond, _||_}
-use mathlib.Core.List.{List, [], _∷_, List·Memᴰ·head, List·Memᴰ·tail, List·Memᴰ·not-nil, List·Memᴰ·cases-cons}
+use mathlib.Core.List.{List, [], _∷_, map, List·Memᴰ·head, List·Memᴰ·tail, List·Memᴰ·not-nil, List·Memᴰ·cases-cons}
 use lib.Dec.{T, T-not}
 use lib.ListN.{length, getD, take, drop}
 use Rattle.names.proofs.Same.{T-both, T-left, T-right}
-use Rattle.ordering.specs.Items.{any, all, keep}
+use Rattle.ordering.specs.Items.{is-empty, any, all, keep}
 use Rattle.ordering.specs.Lawful.{_is-in_}
 
 -- tests joined
@@ -67,6 +68,27 @@ module _ {A : Type 0} where
   in-drop-at (suc n) [] d m = absurd (List·Memᴰ·not-nil m)
   in-drop-at (suc n) (y ∷ ys) d m = let r = in-drop-at n ys d m in (suc (r .0), suc-le-suc (r .1), suc-le-suc (r .2), r .3)
 
+  -- lists with no element, and with one
+  pub length-nil : (l : List A) → length l ≡ 0 → l ≡ []
+  length-nil [] e = refl
+  length-nil (x ∷ xs) e = absurd (omega arith)
+
+  pub is-nil : (l : List A) → ((x : A) → ¬ (x is-in l)) → l ≡ []
+  is-nil [] h = refl
+  is-nil (x ∷ xs) h = absurd (h x (List·Memᴰ·head refl))
+
+  pub none-in : {x : A} (l : List A) → T (is-empty l) → ¬ (x is-in l)
+  none-in [] t m = List·Memᴰ·not-nil m
+  none-in (y ∷ ys) t m = t
+
+  pub one-in : {x : A} (l : List A) → x is-in l → is-empty l ≡ false
+  one-in [] m = absurd (List·Memᴰ·not-nil m)
+  one-in (y ∷ ys) m = refl
+
+  pub first-in : (l : List A) → (length l ≡ 0 → ⊥) → (x : A) × (x is-in l)
+  first-in [] h = absurd (h refl)
+  first-in (x ∷ xs) h = (x, List·Memᴰ·head refl)
+
   -- tests of members
   pub any-intro : (f : A → Bool) {x : A} {xs : List A} → x is-in xs → T (f x) → T (any f xs)
   any-intro f (List·Memᴰ·head {x = y} {xs = ys} e) t = T-inl (f y) (any f ys) (subst (λ (z : A). T (f z)) e t)
@@ -105,3 +127,17 @@ module _ {A : Type 0} where
     where
       later : (x is-in ys) × T (f x) → (x is-in y ∷ ys) × T (f x)
       later r = (List·Memᴰ·tail (r .0), r .1)
+
+-- members of a list that is mapped
+module _ {A B : Type 0} (f : A → B) where
+  pub in-map : {x : A} {xs : List A} → x is-in xs → f x is-in map f xs
+  in-map (List·Memᴰ·head e) = List·Memᴰ·head (ap f e)
+  in-map (List·Memᴰ·tail m) = List·Memᴰ·tail (in-map m)
+
+  pub map-in : {y : B} (xs : List A) → y is-in map f xs → (x : A) × (x is-in xs) × (y ≡ f x)
+  map-in [] m = absurd (List·Memᴰ·not-nil m)
+  map-in (x ∷ xs) m =
+      ⊎-elim
+      (λ e. (x, List·Memᴰ·head refl, e))
+      (λ d. let r = map-in xs d in (r .0, List·Memᴰ·tail (r .1), r .2))
+      (List·Memᴰ·cases-cons m)

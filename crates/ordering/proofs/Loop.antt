@@ -9,8 +9,8 @@ use mathlib.Core.Bool.{Bool, true, false, cond}
 use mathlib.Core.List.{List, _∷_, foldl}
 use lib.ListN.{length, getD, set, take}
 use lib.Seq.{take-set-le}
-use Rattle.ordering.specs.Items.{Item, keep}
-use Rattle.ordering.specs.Toposort.{Row, indices-from, ready, picked, swap, place, turn}
+use Rattle.ordering.specs.Items.{Item, indices-from, ready, keep}
+use Rattle.ordering.specs.Toposort.{Row, picked, swap, place, turn}
 use Rattle.ordering.proofs.Swap.{length-swap, swap-back, swap-at}
 
 module _ (bs : List Item) where

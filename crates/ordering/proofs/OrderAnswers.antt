@@ -1,4 +1,4 @@
--- What Order's answers mean: the rounds are within their limits, what is written with 0 is a lawful order, and with 5 the stuck bindings.
+-- What Order's answers mean: what is written with 0 is a lawful order, and with 5 the stuck bindings; an order has its rounds, a refusal none.
 -- Assumes nothing.
 use mathlib.Core.Path.{_≡_, refl, sym, _∙_}
 use mathlib.Core.Bool.{Bool, true, false}
@@ -18,12 +18,12 @@ use Rattle.records.specs.Records.{loc-number, Body}
 use Rattle.records.specs.Valid.{AreBytes}
 use Rattle.records.proofs.Accepted.{assign-format, opened-valid, one-tree}
 use Rattle.records.proofs.Opened.{Start, start}
-use Rattle.ordering.specs.Toposort.{Toposorted, ordered, deadlock, rounds}
-use Rattle.ordering.specs.OrderCall.{Rounds, bindings-of, let-loc, stuck-answer, order-answer, order-of, order-call}
+use Rattle.ordering.specs.Toposort.{Toposorted, ordered, deadlock}
+use Rattle.ordering.specs.Rounds.{rounds}
+use Rattle.ordering.specs.OrderCall.{bindings-of, let-loc, stuck-answer, order-answer, order-of, order-call}
 use Rattle.ordering.specs.OrderMeans.{IsAssign, OrderMeans}
 use Rattle.ordering.specs.Words.{items, toposort-assign-bindings}
-use Rattle.ordering.proofs.Rounds.{rounds-few, rounds-some}
-use Rattle.ordering.proofs.Toposort.{sound, sound-length, no-order}
+use Rattle.ordering.proofs.Toposort.{sound, no-order}
 
 -- what is written stands at the front of the buffer
 module _ (is buffer : Bytes) where
@@ -71,51 +71,30 @@ module _ (c : ℕ) (buffer : Bytes) where
       go (closed r) e s = refused r (s .0) (s .1)
       go (opened a) e s = read a e
 
-  refused-rounds : (r : Refusal) → Rounds (refused-answer c buffer r)
-  unfolding refused-answer
-  refused-rounds r = record { few = omega arith; some = λ e h. h; none = λ _. refl }
-
-  order-rounds : (a : Body) → Rounds (order-of c buffer a)
-  unfolding stuck-answer order-answer toposort-assign-bindings
-  order-rounds a =
-      of-read Rounds a (refused-rounds (placeless 8))
-      (λ is e.
-      let l = sound-length (items (bindings-of a)) is e in
-      record {
-        few = omega (arith, l, rounds-few (items (bindings-of a)));
-        some = λ q h. rounds-some (items (bindings-of a)) is e (omega (arith, l));
-        none = λ q. absurd (q refl);
-      })
-      (λ is e. record { few = omega arith; some = λ q h. absurd (omega arith); none = λ _. refl })
-
   module _ {input : Bytes} where
     -- a refusal by another number than 5 means nothing
     refused-means : (r : Refusal) → (r .number ≡ 0 → ⊥) → (r .number ≡ 5 → ⊥) → OrderMeans input (refused-answer c buffer r)
     unfolding refused-answer
-    refused-means r z f = record { within = omega arith; order = λ e. absurd (z e); stuck = λ e. absurd (f e); rounds = refused-rounds r }
+    refused-means r z f = record { within = omega arith; order = λ e. absurd (z e); stuck = λ e. absurd (f e); none = λ _. refl }
 
     read-means : (a : Body) → IsAssign input a → OrderMeans input (order-of c buffer a)
     unfolding stuck-answer order-answer toposort-assign-bindings
     read-means a w =
-        of-read (λ r. Rounds r → OrderMeans input r) a (λ _. refused-means (placeless 8) (λ z. omega arith) (λ f. omega arith))
-        (λ is e h. record {
+        of-read (OrderMeans input) a (refused-means (placeless 8) (λ z. omega arith) (λ f. omega arith))
+        (λ is e. record {
           within = written-fits is buffer;
-          order = λ _. (a, w, rw (written-is is buffer) (sound (items (bindings-of a)) is e));
+          order = λ _. (a, w, rw (written-is is buffer) (sound (items (bindings-of a)) is e), refl);
           stuck = λ z. absurd (omega arith);
-          rounds = h;
+          none = λ z. absurd (z refl);
         })
-        (λ is e h. record {
+        (λ is e. record {
           within = written-fits is buffer;
           order = λ z. absurd (omega arith);
           stuck = λ _. (a, w, rw (written-is is buffer) (no-order (items (bindings-of a)) is e), refl);
-          rounds = h;
+          none = λ _. refl;
         })
-        (order-rounds a)
 
 module _ (F work c : ℕ) (input buffer : Bytes) where
-  pub order-call-rounds : Rounds (order-call F work c input buffer)
-  order-call-rounds = of-call c buffer Rounds F work input (λ r l h. refused-rounds c buffer r) (λ a e. order-rounds c buffer a)
-
   -- the counter stays
   pub order-call-counter : order-call F work c input buffer .0 .counter ≡ c
   unfolding refused-answer stuck-answer order-answer

@@ -28,7 +28,8 @@ use Rattle.records.specs.declared.LetView.{LetView}
 use Rattle.ordering.specs.Assign.{Let, OrdersBindings}
 use Rattle.ordering.specs.Needs.{outcome-of}
 use Rattle.ordering.specs.OrderCall.{bindings-of, let-loc, stuck-answer, order-answer, order-of, order-call}
-use Rattle.ordering.specs.Toposort.{ordered, deadlock, rounds}
+use Rattle.ordering.specs.Toposort.{ordered, deadlock}
+use Rattle.ordering.specs.Rounds.{rounds}
 use Rattle.ordering.specs.Words.{items, toposort-assign-bindings}
 use Rattle.ordering.specs.declared.Order.{Order}
 use Rattle.records.proofs.Lists.{list-count}
@@ -101,7 +102,7 @@ module _ {s : Bytes} {v : LetView} {k : Kind} {l : Loc} {w h : Bytes} {bs : Bind
 
     pub answer-found : o .count ≤ o .placed → a ≡ order-answer c buffer (o .rounds) (take (o .count) (o .row)) → a ≡ order-of c buffer (BL k l w h bs b)
     answer-found le e =
-        e ∙ ap (λ (n : ℕ). order-answer c buffer n (take (o .count) (o .row))) (g .turns) ∙ sym (order-found c buffer k l w h bs b _ (omega (arith, let-count)) (found-is g le))
+        e ∙ ap (λ (n : ℕ). order-answer c buffer n (take (o .count) (o .row))) (g .rounds) ∙ sym (order-found c buffer k l w h bs b _ (omega (arith, let-count)) (found-is g le))
 
 -- an input that is refused before any work
 pub call-refused : (F work c : ℕ) (input buffer : Bytes) (r : Refusal) → Refused r ≡ opening-of (open-input assign-of F work c input) → order-call F work c input buffer ≡ refused-answer c buffer r

@@ -9,9 +9,9 @@ use mathlib.Core.Bool.{true, false}
 use mathlib.Core.List.{List}
 use lib.ListN.{length, getD, set, take, length-set}
 use lib.Seq.{getD-set-same, getD-set-other, take-set-le}
-use Rattle.ordering.specs.Items.{Item}
+use Rattle.ordering.specs.Items.{Item, ready}
 use Rattle.ordering.specs.Needs.{TurnStart}
-use Rattle.ordering.specs.Toposort.{ready, turn}
+use Rattle.ordering.specs.Toposort.{turn}
 use Rattle.ordering.proofs.Loop.{from, pass-begins, pass-ends, pass-stays, pass-places}
 
 below-set : (n : ℕ) (l : List ℕ) (i v : ℕ) → n ≤ length l → ((k : ℕ) → k < n → getD l k 0 < n) → v < n

@@ -4,14 +4,15 @@ use Prim.Native.Nat.{ℕ, zero, suc, _+_, _-_, _≤_, _<_, zero-le}
 use native.Mathlib.Nat.{not-suc-le-zero, le-refl}
 use native.Mathlib.Omega.{arith}
 use native.Mathlib.Decide.{decLt}
-use mathlib.Core.Path.{_≡_, refl, ap, _∙_}
-use mathlib.Core.List.{List, [], _∷_, _++_, foldl, Memᴰ·append-left}
+use mathlib.Core.Path.{_≡_, refl, sym, ap, _∙_}
+use mathlib.Core.Bool.{Bool}
+use mathlib.Core.List.{List, [], _∷_, _++_, append-nil, append-assoc, map, foldl, Memᴰ·append-left}
 use lib.Dec.{T}
 use lib.ListN.{length, getD, take, length-append, List·getD-append}
 use lib.Seq.{take-append-le, take-append-seam, getD-append-seam}
 use Rattle.names.specs.Names.{Bytes}
-use Rattle.ordering.specs.Items.{Item, keep}
-use Rattle.ordering.specs.Toposort.{Row, indices-from, start, ready, picked, place, turn}
+use Rattle.ordering.specs.Items.{Item, indices-from, ready, keep}
+use Rattle.ordering.specs.Toposort.{Row, start, picked, place, turn}
 use Rattle.ordering.specs.Lawful.{_is-in_, Provides, Needs, OfAll, Lawful}
 use Rattle.ordering.proofs.Lists.{by-cond, in-at, at-in, at-in-take, in-keep}
 use Rattle.ordering.proofs.Tests.{ready-true}
@@ -37,10 +38,17 @@ in-count a n k h l =
     at-k : getD (indices-from a n) (k - a) 0 ≡ k
     at-k = omega (arith, count-at a n (k - a) (omega arith))
 
+pub count-in : (a n k : ℕ) → k is-in indices-from a n → (a ≤ k) × (k < a + n)
+count-in a n k m =
+    let r = in-at 0 m in
+    let lt : r .0 < n = omega (arith, length-count a n, r .1) in
+    let e = count-at a n (r .0) lt in
+    (omega (arith, r .2, e), omega (arith, r .2, e))
+
 all-count : (n : ℕ) → OfAll n (indices-from 0 n)
 all-count n = record {
   some = record {
-    below = λ i m. let r = in-at 0 m in omega (arith, count-at 0 n (r .0) (lt (r .1)), r .2, lt (r .1));
+    below = λ i m. omega (arith, count-in 0 n i m .1);
     once = λ j k p q e. omega (arith, count-at 0 n j (lt p), count-at 0 n k (lt q), e);
   };
   every = λ i h. in-count 0 n i zero-le (omega arith);
@@ -123,6 +131,31 @@ module _ (bs : List Item) where
   good-turn r g =
       sweep (take (r .placed) (r .row)) (r .row) (length (r .row) - r .placed) (r .placed) r g
       (le-refl (r .placed)) (omega arith) (λ p h. refl) (λ j d. d)
+
+  -- what is placed after it: what was before, and then what it picks
+  module _ (test : ℕ → Bool) (old : List ℕ) where
+    appends : (m a : ℕ) (r : Row) → r .placed ≤ a → a + m ≡ length (r .row)
+        → ((p : ℕ) → a ≤ p → getD (r .row) p 0 ≡ getD old p 0)
+        → take (foldl place r (keep test (indices-from a m)) .placed) (foldl place r (keep test (indices-from a m)) .row)
+        ≡ take (r .placed) (r .row) ++ map (λ p. getD old p 0) (keep test (indices-from a m))
+    appends zero a r le e eq = sym (append-nil (take (r .placed) (r .row)))
+    appends (suc m) a r le e eq =
+        let lt : a < length (r .row) = omega arith in
+        let here : r .placed < length (r .row) = omega arith in
+        by-cond (λ ps. take (foldl place r ps .placed) (foldl place r ps .row) ≡ take (r .placed) (r .row) ++ map (λ p. getD old p 0) ps) (test a)
+        (λ t.
+        appends m (suc a) (place r a) (omega arith)
+        (omega (arith, length-swap (r .row) (r .placed) a here lt))
+        (λ p h. swap-at (r .row) (r .placed) a here lt p (omega arith) (omega arith) ∙ eq p (omega arith))
+        ∙ rw (take-swap (r .row) (r .placed) a here lt le, eq a (le-refl a)) (append-assoc (take (r .placed) (r .row)) (getD old a 0 ∷ []) _))
+        (λ t. appends m (suc a) r (omega arith) (omega arith) (λ p h. eq p (omega arith)))
+
+  pub turn-appends : (r : Row) → Good r
+      → take (turn bs r .placed) (turn bs r .row) ≡ take (r .placed) (r .row) ++ map (λ p. getD (r .row) p 0) (picked bs r)
+  unfolding picked
+  turn-appends r g =
+      appends (λ p. ready bs (take (r .placed) (r .row)) (getD (r .row) p 0)) (r .row) (length (r .row) - r .placed) (r .placed) r
+      (le-refl (r .placed)) (omega arith) (λ p h. refl)
 
   pub placed-by : (r : Row) (ps : List ℕ) → (foldl place r ps) .placed ≡ r .placed + length ps
   placed-by r [] = omega arith

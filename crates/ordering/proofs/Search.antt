@@ -11,9 +11,8 @@ use lib.Bits.{bitAnd}
 use lib.ListN.{length, getD, take, drop, drop-of-length-le, length-map}
 use lib.Seq.{drop-cons, getD-drop, getD-take}
 use Rattle.names.specs.Names.{Bytes}
-use Rattle.ordering.specs.Items.{Item, item-at, any, all, gives, needed}
+use Rattle.ordering.specs.Items.{Item, ready, item-at, any, all, gives, needed}
 use Rattle.ordering.specs.Needs.{bits, marks, providers, TurnStart}
-use Rattle.ordering.specs.Toposort.{ready}
 use Rattle.ordering.proofs.Bits.{none-gives, some-gives}
 
 map-at : {A B : Type 0} (f : A → B) (l : List A) (n : ℕ) (d : A) (e : B) → n < length l → getD (map f l) n e ≡ f (getD l n d)

@@ -8,8 +8,7 @@ use lib.ListN.{length, List·getD-eq-default}
 use native.Mathlib.Decide.{decLt}
 use Rattle.names.specs.Names.{Bytes, same}
 use Rattle.names.proofs.Same.{same→eq, same-refl}
-use Rattle.ordering.specs.Items.{Item, absent, item-at, any, gives, needed}
-use Rattle.ordering.specs.Toposort.{ready}
+use Rattle.ordering.specs.Items.{Item, ready, absent, item-at, any, gives, needed}
 use Rattle.ordering.specs.Lawful.{_is-in_, Provides, Needs}
 use Rattle.ordering.proofs.Lists.{in-at, at-in, any-intro, any-elim, all-intro, all-elim, in-keep, keep-in}
 

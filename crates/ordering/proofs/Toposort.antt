@@ -7,22 +7,18 @@ use native.Mathlib.Decide.{decLt}
 use mathlib.Core.Path.{_≡_, refl, sym, _∙_}
 use mathlib.Core.Logic.{_↔_}
 use mathlib.Core.Bool.{Bool, true, false, not, cond}
-use mathlib.Core.List.{List, [], _∷_, List·Memᴰ·not-nil}
+use mathlib.Core.List.{List, [], _∷_}
 use lib.Dec.{T, ltb, ltb→lt, nltb→le}
 use lib.ListN.{length, getD, take, drop, length-take, length-drop}
 use lib.Seq.{take-all, getD-take, getD-drop}
 use borrow.Author.Tests.{le-ltb}
-use Rattle.ordering.specs.Items.{Item}
-use Rattle.ordering.specs.Toposort.{Row, start, picked, turn, is-empty, Toposorted, ordered, deadlock, turns, toposort}
+use Rattle.ordering.specs.Items.{Item, is-empty}
+use Rattle.ordering.specs.Toposort.{Row, start, picked, turn, Toposorted, ordered, deadlock, turns, toposort}
 use Rattle.ordering.specs.Lawful.{_is-in_, OfSome, Lawful, Full, Stuck, NoOrder}
 use Rattle.ordering.specs.Needs.{Means}
-use Rattle.ordering.proofs.Lists.{by-cond, in-at, at-in, at-in-take, in-take-at, at-in-drop, in-drop-at}
+use Rattle.ordering.proofs.Lists.{by-cond, in-at, at-in, at-in-take, in-take-at, at-in-drop, in-drop-at, none-in}
 use Rattle.ordering.proofs.Tests.{true-ready}
 use Rattle.ordering.proofs.Rows.{Good, good-start, good-turn, placed-by, none-left}
-
-none-in : {i : ℕ} (l : List ℕ) → T (is-empty l) → ¬ (i is-in l)
-none-in [] t m = List·Memᴰ·not-nil m
-none-in (x ∷ xs) t m = t
 
 some-in : (l : List ℕ) → T (not (is-empty l)) → 0 < length l
 some-in [] t = absurd t

@@ -18,7 +18,7 @@ use Rattle.ordering.specs.Listing.{all-words}
 use Rattle.ordering.specs.Provisions.{Entries, Added, Provisions}
 use Rattle.ordering.specs.Needs.{binding-limit, needs-of, NeedsAt, Means, outcome-of}
 use Rattle.ordering.specs.OrderCall.{order-of}
-use Rattle.ordering.specs.Toposort.{rounds}
+use Rattle.ordering.specs.Rounds.{rounds}
 use Rattle.ordering.specs.Words.{pattern-provides, words, items, toposort-assign-bindings}
 
 -- the most entries and the most needs of an assign: each takes four bytes or more
@@ -107,7 +107,7 @@ pub record OrdersBindings (bs : List Binding) (r : Order) : Type 0 where
   pub row : length (r .row) ≡ binding-limit
   pub placed : r .placed ≤ r .count
   pub order : toposort-assign-bindings bs ≡ outcome-of (take (r .count) (r .row)) (r .placed)
-  pub turns : r .rounds ≡ rounds (items bs)
+  pub rounds : r .rounds ≡ rounds (items bs)
   pub means : Means (items bs) (outcome-of (take (r .count) (r .row)) (r .placed))
 
 -- of every let that stands at the start of s the bindings are so ordered

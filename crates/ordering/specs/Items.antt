@@ -1,6 +1,6 @@
 -- The bindings of an assign, by what each needs and provides.
 -- Assumes nothing.
-use Prim.Native.Nat.{ℕ}
+use Prim.Native.Nat.{ℕ, zero, suc}
 use mathlib.Core.Bool.{Bool, true, false, cond, _&&_, _||_}
 use mathlib.Core.List.{List, [], _∷_}
 use lib.ListN.{getD}
@@ -19,8 +19,18 @@ absent = record { needs = []; has = [] }
 abbrev pub item-at : List Item → ℕ → Item
 item-at bs i = getD bs i absent
 
+-- a, a + 1, .. : as many as n
+abbrev pub indices-from : ℕ → ℕ → List ℕ
+indices-from a zero = []
+indices-from a (suc n) = a ∷ indices-from (suc a) n
+
 -- tests on lists
 module _ {A : Type 0} where
+  -- there is no element
+  abbrev pub is-empty : List A → Bool
+  is-empty [] = true
+  is-empty (x ∷ xs) = false
+
   -- some element passes the test
   abbrev pub any : (A → Bool) → List A → Bool
   any f [] = false
@@ -43,3 +53,7 @@ gives x b = any (same x) (b .has)
 -- the names that the binding with index i needs: those of its body that some binding of the assign provides
 unfoldable pub needed : List Item → ℕ → List Bytes
 needed bs i = keep (λ x. any (gives x) bs) (item-at bs i .needs)
+
+-- all that the binding with index i needs is provided by bindings of `done`
+unfoldable pub ready : List Item → List ℕ → ℕ → Bool
+ready bs done i = all (λ x. any (λ j. gives x (item-at bs j)) done) (needed bs i)

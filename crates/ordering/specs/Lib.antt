@@ -1,5 +1,6 @@
 pub mod Items
 pub mod Toposort
+pub mod Rounds
 pub mod Lawful
 pub mod Scope
 pub mod Words

@@ -11,7 +11,8 @@ use Rattle.names.specs.Segments.{At}
 use Rattle.records.specs.Limits.{count-limit}
 use Rattle.ordering.specs.Items.{Item, any, keep, gives, needed}
 use Rattle.ordering.specs.Lawful.{Full, NoOrder}
-use Rattle.ordering.specs.Toposort.{turn, Toposorted, ordered, deadlock, toposort, rounds}
+use Rattle.ordering.specs.Toposort.{turn, Toposorted, ordered, deadlock, toposort}
+use Rattle.ordering.specs.Rounds.{rounds}
 use Rattle.ordering.specs.declared.Sorted.{Sorted}
 
 -- the most bindings of an assign
@@ -66,7 +67,7 @@ TakesTurn needs starts row placed done after left = (bs : List Item) → TurnSta
 unfoldable pub outcome-of : List ℕ → ℕ → Toposorted
 outcome-of row placed = cond (ltb placed (length row)) (deadlock (drop placed row)) (ordered row)
 
--- so a row is the outcome, and the turns are its rounds, of every list of n bindings with these needs
+-- so a row is the outcome, and the number is that of the rounds, of every list of n bindings with these needs
 abbrev pub SortsItems : ℕ → List ℕ → List ℕ → List ℕ → Sorted → Type 0
 SortsItems n needs starts row r = (bs : List Item) → length bs ≡ n → NeedsAt bs needs starts
     → (toposort bs ≡ outcome-of row (r .placed)) × (r .rounds ≡ rounds bs)

@@ -2,9 +2,7 @@
 -- Assumes nothing.
 use mathlib.Core.Bool.{true, false}
 use mathlib.Core.List.{List, []}
-use mathlib.Core.Logic.{_≢_}
-use mathlib.Core.Path.{_≡_}
-use Prim.Native.Nat.{ℕ, _≤_}
+use Prim.Native.Nat.{ℕ}
 use lib.Dec.{leb}
 use lib.ListN.{length}
 use Rattle.names.specs.CallAnswer.{Result, written, refused-answer, accepted-answer}
@@ -14,7 +12,8 @@ use Rattle.names.specs.declared.Place.{Place}
 use Rattle.records.specs.Records.{Loc, loc-number, Body, BL, BQ, BV, BC, BM, BF, Binding, list-of}
 use Rattle.records.specs.Read.{assign-of}
 use Rattle.records.specs.Opened.{opened, closed, open-input}
-use Rattle.ordering.specs.Toposort.{ordered, deadlock, rounds}
+use Rattle.ordering.specs.Toposort.{ordered, deadlock}
+use Rattle.ordering.specs.Rounds.{rounds}
 use Rattle.ordering.specs.Words.{items, toposort-assign-bindings}
 
 -- a let's bindings
@@ -35,13 +34,13 @@ let-loc (BC l bs t) = []
 let-loc (BM l f) = []
 let-loc (BF l w ca c a b) = []
 
--- the indices of the stuck bindings, in the sequence in which `toposort` leaves them
+-- the indices of the stuck bindings, in the sequence in which `toposort` leaves them; a deadlock carries no rounds
 unfoldable pub stuck-answer : ℕ → Place → Bytes → Bytes → Result
 stuck-answer c p buffer is = (record { refusal = refusing 5 p; counter = c; rounds = 0; len = length is }, written is buffer)
 
--- the indices in order, and the turns that placed them
+-- the indices in order, and the number of rounds
 unfoldable pub order-answer : ℕ → Bytes → ℕ → Bytes → Result
-order-answer c buffer turns is = (accepted-answer c turns (length is), written is buffer)
+order-answer c buffer count is = (accepted-answer c count (length is), written is buffer)
 
 -- an assign that is read: 8 where the buffer is shorter than the binding count; then its order, or 5
 unfoldable pub order-of : ℕ → Bytes → Body → Result
@@ -58,13 +57,6 @@ order-of c buffer a =
 unfoldable pub order-call : ℕ → ℕ → ℕ → Bytes → Bytes → Result
 order-call F work c input buffer =
     elim (open-input assign-of F work c input) [ closed r ↦ refused-answer c buffer r | opened a ↦ order-of c buffer a ]
-
--- What is true of the rounds, which are free between 1 and the count (0 for none): no more than the indices, at least one where there are
--- some, and none with a refusal.
-pub record Rounds (r : Result) : Type 0 where
-  pub few : r .0 .rounds ≤ r .0 .len
-  pub some : r .0 .refusal .number ≡ 0 → 1 ≤ r .0 .len → 1 ≤ r .0 .rounds
-  pub none : r .0 .refusal .number ≢ 0 → r .0 .rounds ≡ 0
 
 -- unfolds with every definition of this file
 unfoldable pub computing-order-call : Unit {0}

@@ -1,16 +1,11 @@
 -- The exact order of an assign's bindings, which is that of `toposort`.
 -- Assumes nothing.
 use Prim.Native.Nat.{ℕ, zero, suc, _-_}
-use mathlib.Core.Bool.{Bool, true, false, cond}
-use mathlib.Core.List.{List, [], _∷_, foldl}
+use mathlib.Core.Bool.{cond}
+use mathlib.Core.List.{List, foldl}
 use lib.Dec.{ltb}
 use lib.ListN.{length, getD, set, take, drop}
-use Rattle.ordering.specs.Items.{Item, item-at, any, all, keep, gives, needed}
-
--- a, a + 1, .. : as many as n
-abbrev pub indices-from : ℕ → ℕ → List ℕ
-indices-from a zero = []
-indices-from a (suc n) = a ∷ indices-from (suc a) n
+use Rattle.ordering.specs.Items.{Item, indices-from, is-empty, keep, gives, needed, ready}
 
 -- the row of all indices, and how many of them, from the left, are placed
 pub record Row : Type 0 where
@@ -20,10 +15,6 @@ pub record Row : Type 0 where
 -- the row at first: all indices, rising, none of them placed
 unfoldable pub start : ℕ → Row
 start n = record { row = indices-from 0 n; placed = 0 }
-
--- all that the binding with index i needs is provided by bindings of `done`
-unfoldable pub ready : List Item → List ℕ → ℕ → Bool
-ready bs done i = all (λ x. any (λ j. gives x (item-at bs j)) done) (needed bs i)
 
 -- the positions in the row, rising, of what a turn picks
 unfoldable pub picked : List Item → Row → List ℕ
@@ -48,11 +39,6 @@ pub data Toposorted : Type 0 where
   ordered : List ℕ → Toposorted
   deadlock : List ℕ → Toposorted
 
--- a list with no element
-abbrev pub is-empty : List ℕ → Bool
-is-empty [] = true
-is-empty (x ∷ xs) = false
-
 -- at most so many turns: with all placed, the order; with no turn left, or one that picks nothing, a deadlock
 abbrev pub turns : List Item → ℕ → Row → Toposorted
 turns bs zero r = cond (ltb (r .placed) (length (r .row))) (deadlock (drop (r .placed) (r .row))) (ordered (r .row))
@@ -65,19 +51,7 @@ turns bs (suc n) r =
 unfoldable pub toposort : List Item → Toposorted
 toposort bs = turns bs (length bs) (start (length bs))
 
--- the turns that place something, of at most so many
-abbrev pub rounds-from : List Item → ℕ → Row → ℕ
-rounds-from bs zero r = 0
-rounds-from bs (suc n) r =
-    let more : ℕ = suc (rounds-from bs n (turn bs r)) in
-    let go : ℕ = cond (is-empty (picked bs r)) 0 more in
-    cond (ltb (r .placed) (length (r .row))) go 0
-
--- how many turns place something
-unfoldable pub rounds : List Item → ℕ
-rounds bs = rounds-from bs (length bs) (start (length bs))
-
 -- unfolds with every definition of this file, and of Items.antt
 unfoldable pub computing-toposort : Unit {0}
-unfolding gives needed start ready picked swap toposort rounds
+unfolding gives needed ready start picked swap toposort
 computing-toposort = tt

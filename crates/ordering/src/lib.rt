@@ -26,14 +26,14 @@ pub struct Listed {
     pub end: usize,
 }
 
-// How many indices of a row are placed, and in how many turns.
+// How many indices of a row are placed, and in how many rounds.
 pub struct Sorted {
     pub placed: usize,
     pub rounds: usize,
 }
 
 // The order of `count` bindings. With all of them placed the row is the order; at a deadlock what
-// stands in it from `placed` on is stuck.
+// stands in it from `placed` on is stuck. `rounds` is the number of nonempty rounds either way.
 pub struct Order {
     pub row: [u8; BINDING_LIMIT],
     pub count: usize,

@@ -4,10 +4,10 @@ use crate::Sorted;
 ghost use mathlib.Core.Path.{_≡_};
 ghost use Prim.Native.Nat.{_≤_};
 ghost use lib.ListN.{length, take};
-ghost use Rattle.ordering.specs.Toposort.{indices-from};
+ghost use Rattle.ordering.specs.Items.{indices-from};
 ghost use Rattle.ordering.specs.Needs.{binding-limit, bits, marks, Starts, IndicesBelow, TakesTurn, SortsItems};
 
-// Orders the indices of all bindings in `row`.
+// Orders the indices of all bindings in `row`, round by round.
 pub fn toposort(needs: &[u64], starts: &[usize], row: &mut [u8]) -> Sorted
     requires { ⌜ Starts (length (now row)) (now needs) (now starts) ⌝ }
     ensures { λ r. ⌜ (r .placed ≤ length (now (row .exit))) × (r .rounds ≤ r .placed) ⌝ }
@@ -18,13 +18,14 @@ pub fn toposort(needs: &[u64], starts: &[usize], row: &mut [u8]) -> Sorted
     let mut placed = 0;
     let mut rounds = 0;
     while placed < row.len() {
+        let round = rounds + 1;
         let done = placed_bits(row, placed);
         let next = turn(needs, starts, row, placed, done);
         if next == placed {
             return Sorted { placed, rounds };
         }
         placed = next;
-        rounds += 1;
+        rounds = round;
     }
     Sorted { placed, rounds }
 }

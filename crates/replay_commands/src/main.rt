@@ -19,9 +19,11 @@ fn checks() {
     check(STDOUT_FILENO, Wanted::Form, b"missing", 64);
 }
 
-// An assign that is ordered, and one whose bindings wait for each other.
+// Assigns that are ordered, in two rounds and in three with two bindings in some, and one whose bindings
+// wait for each other.
 fn orders(work: &mut [u8; WORK]) {
     order(STDOUT_FILENO, b"total", 256, work);
+    order(STDOUT_FILENO, b"payout", 512, work);
     order(STDOUT_FILENO, b"invoice", 256, work);
 }
 

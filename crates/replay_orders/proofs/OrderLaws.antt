@@ -1,6 +1,6 @@
 -- Bytes in a list, and a result that is that of a case, part by part. Assumes nothing.
 use mathlib.Core.Bool.{Bool}
-use mathlib.Core.Logic.{_≢_, ⊎-elim}
+use mathlib.Core.Logic.{⊎-elim}
 use mathlib.Core.Path.{_≡_}
 use native.Mathlib.Omega.{arith}
 use Prim.Native.Nat.{ℕ, _+_, _≤_, _<_}
@@ -11,7 +11,7 @@ use Rattle.names.specs.Refusals.{place-at, refusing}
 use Rattle.names.specs.declared.Answer.{Answer}
 use Rattle.names.specs.declared.Place.{Place}
 use Rattle.names.specs.declared.Refusal.{Refusal}
-use Rattle.ordering.specs.OrderCall.{Rounds, order-call}
+use Rattle.ordering.specs.OrderCall.{order-call}
 use Rattle.replays.specs.Judging.{Decides, filling, head-field}
 use Rattle.replay_orders.specs.declared.order.Case.{Case}
 use Rattle.replay_orders.specs.Orders.{OrderAgrees, Somewhere, buffer-of, case-from, case-result}
@@ -35,21 +35,11 @@ module _ (list xs : Bytes) (i : ℕ) where
   pub held-next : HeldTo xs list i → Somewhere (getD xs i 0) list → HeldTo xs list (i + 1)
   held-next f h k lt = ⊎-elim (λ l. f k l) (λ g. let q : k ≡ i = omega arith in rw q h) (lt-or-le k i)
 
--- the rounds of an answer, by its number and length
-module _ (a : Answer) (buffer : Bytes) where
-  pub rounds-refused : a .refusal .number ≢ 0 → a .rounds ≡ 0 → Rounds (a, buffer)
-  rounds-refused n e = record { few = omega arith; some = λ z l. absurd (n z); none = λ m. e }
-
-  pub rounds-none : a .refusal .number ≡ 0 → a .len ≡ 0 → a .rounds ≡ 0 → Rounds (a, buffer)
-  rounds-none z l e = record { few = omega arith; some = λ y h. absurd (omega arith); none = λ m. absurd (m z) }
-
-  pub rounds-some : a .refusal .number ≡ 0 → 1 ≤ a .rounds → a .rounds ≤ a .len → Rounds (a, buffer)
-  rounds-some z one few = record { few = few; some = λ y h. one; none = λ m. absurd (m z) }
-
 -- a case by the numbers of its head
-pub case-parts : (head : Bytes) {f k n p : ℕ} {at : Place} {r : Refusal} → f ≡ head-field head 0 2 → k ≡ head-field head 2 8 → r ≡ refusing n at
-    → n ≡ head-field head 11 1 → at ≡ place-at p → p ≡ head-field head 12 4 → _≡_ {A = Case} (record { f = f; counter = k; refusal = r }) (case-from head)
-case-parts head a b c d e g = rw (a, b, c, d, e, g)
+pub case-parts : (head : Bytes) {f k n p t : ℕ} {at : Place} {r : Refusal} → f ≡ head-field head 0 2 → k ≡ head-field head 2 8 → r ≡ refusing n at
+    → n ≡ head-field head 11 1 → at ≡ place-at p → p ≡ head-field head 12 4 → t ≡ head-field head 16 1
+    → _≡_ {A = Case} (record { f = f; counter = k; refusal = r; rounds = t }) (case-from head)
+case-parts head a b c d e g h = rw (a, b, c, d, e, g, h)
 
 -- a test of what the call answers in filled memory decides of the case's result
 pub agrees-with : (c : Case) (wanted input : Bytes) (work n : ℕ) {mem out : Bytes} {a : Answer} {t : Bool} → (a, out) ≡ order-call (c .f) work (c .counter) input mem → mem ≡ filling n

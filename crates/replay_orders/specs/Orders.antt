@@ -6,7 +6,7 @@ use lib.ListN.{length, getD, take, drop}
 use Rattle.names.specs.CallAnswer.{Result}
 use Rattle.names.specs.Names.{Bytes}
 use Rattle.names.specs.Refusals.{place-at, refusing}
-use Rattle.ordering.specs.OrderCall.{Rounds, order-call}
+use Rattle.ordering.specs.OrderCall.{order-call}
 use Rattle.replays.specs.Judging.{filling, head-field}
 use Rattle.replay_orders.specs.declared.order.Case.{Case}
 
@@ -28,11 +28,11 @@ pub record BytesAgree (number : ℕ) (got wanted : Bytes) : Type 0 where
   pub stuck : number ≡ 5 → AnySequence got wanted
   pub exact : number ≢ 5 → got ≡ wanted
 
--- a result is that of a case: its refusal and counter, rounds that are free, the bytes wanted, and behind them what the buffer was filled with
+-- a result is that of a case: its refusal, counter and rounds, the bytes wanted, and behind them what the buffer was filled with
 pub record OrderAgrees (c : Case) (wanted : Bytes) (r : Result) : Type 0 where
   pub refusal : r .0 .refusal ≡ c .refusal
   pub counter : r .0 .counter ≡ c .counter
-  pub rounds : Rounds r
+  pub rounds : r .0 .rounds ≡ c .rounds
   pub fits : r .0 .len ≤ length (r .1)
   pub bytes : BytesAgree (r .0 .refusal .number) (take (r .0 .len) (r .1)) wanted
   pub rest : drop (r .0 .len) (r .1) ≡ filling (length (drop (r .0 .len) (r .1)))
@@ -41,9 +41,9 @@ pub record OrderAgrees (c : Case) (wanted : Bytes) (r : Result) : Type 0 where
 abbrev pub case-result : Case → ℕ → Bytes → ℕ → Result
 case-result c work input n = order-call (c .f) work (c .counter) input (filling n)
 
--- the head of a case: F, the counter, the length of the result buffer, the number and the place, 2, 8, 1, 1 and 4 bytes
+-- the head of a case: F, the counter, the length of the result buffer, the number, the place and the rounds, 2, 8, 1, 1, 4 and 1 bytes
 abbrev pub case-from : Bytes → Case
-case-from head = record { f = head-field head 0 2; counter = head-field head 2 8; refusal = refusing (head-field head 11 1) (place-at (head-field head 12 4)) }
+case-from head = record { f = head-field head 0 2; counter = head-field head 2 8; refusal = refusing (head-field head 11 1) (place-at (head-field head 12 4)); rounds = head-field head 16 1 }
 
 abbrev pub buffer-of : Bytes → ℕ
 buffer-of head = head-field head 10 1

@@ -1,9 +1,9 @@
 // Replays stored cases of the call Order: standard input has the cases, each with the answer that it
 // must get.
 //
-// A case is F, the counter, the length of the result buffer, the number, the place, how many bytes
-// are written and the length of the input (2, 8, 1, 1, 4, 1 and 2 bytes, big-endian); then the bytes
-// written, and then the input.
+// A case is F, the counter, the length of the result buffer, the number, the place, the rounds, how
+// many bytes are written and the length of the input (2, 8, 1, 1, 4, 1, 1 and 2 bytes, big-endian);
+// then the bytes written, and then the input.
 mod order;
 
 use libc::STDIN_FILENO;
@@ -23,7 +23,7 @@ ghost use Rattle.replays.specs.declared.Verdict.the-variants.{Agrees};
 ghost use Rattle.replay_orders.specs.Orders.{case-from, HeadAgrees};
 
 // The bytes of a case before those written and the input.
-const HEAD: usize = 19;
+const HEAD: usize = 20;
 
 // The length of work memory that is enough for every F.
 const WORK: usize = WORK_FACTOR * MOST_LONGEST;
@@ -42,6 +42,7 @@ fn case_of(head: &[u8; HEAD]) -> Case
             number(head, 11, 1) as u32,
             place_at(number(head, 12, 4) as u64),
         ),
+        rounds: number(head, 16, 1) as u64,
     }
 }
 
@@ -56,8 +57,8 @@ fn judged(head: &[u8; HEAD], work: &mut [u8], wanted: &[u8], input: &[u8]) -> Ve
 
 // Reads what follows the head of a case, and has the call answer it.
 fn rest(head: &[u8; HEAD], work: &mut [u8], wanted: &mut [u8], buf: &mut [u8]) -> Verdict {
-    let count = number(head, 16, 1);
-    let len = number(head, 17, 2);
+    let count = number(head, 17, 1);
+    let len = number(head, 18, 2);
     if count > wanted.len() {
         return Verdict::CutOff;
     }

@@ -7,17 +7,15 @@ use replays::fill;
 use replays::same_refusal;
 use replays::untouched;
 ghost use mathlib.Core.Path.{_≡_};
-ghost use lib.ListN.{length};
-ghost use Rattle.names.specs.Names.{Bytes};
-ghost use Rattle.ordering.specs.OrderCall.{Rounds};
 ghost use Rattle.replays.specs.Judging.{Decides};
 ghost use Rattle.replay_orders.specs.Orders.{AllHeld, BytesAgree, OrderAgrees, Somewhere, AgreesIn};
 
-// What a case gives the call beside its input, and the refusal that it must get.
+// What a case gives the call beside its input, and the refusal and rounds that it must get.
 pub struct Case {
     pub f: usize,
     pub counter: u64,
     pub refusal: Refusal,
+    pub rounds: u64,
 }
 
 // Whether a byte stands in a list.
@@ -48,25 +46,17 @@ fn all_held(list: &[u8], bytes: &[u8]) -> bool
     true
 }
 
-// Whether the rounds are among those that are free: for an order of some bindings from 1 to their
-// number, else 0.
-fn free_rounds(a: Answer) -> bool
-    ensures { λ r. ⌜ ((buffer : Bytes) → Decides r (Rounds (a, buffer))) ⌝ }
-{
-    if a.refusal.number != 0 {
-        return a.rounds == 0;
-    }
-    if a.len == 0 {
-        return a.rounds == 0;
-    }
-    a.rounds >= 1 && a.rounds <= a.len as u64
-}
-
-// Whether refusal and counter are those of the case.
+// Whether refusal, counter and rounds are those of the case.
 fn same_head(c: Case, a: Answer) -> bool
-    ensures { λ r. ⌜ Decides r ((a .refusal ≡ c .refusal) × (a .counter ≡ c .counter)) ⌝ }
+    ensures { λ r. ⌜ Decides r ((a .refusal ≡ c .refusal) × (a .counter ≡ c .counter) × (a .rounds ≡ c .rounds)) ⌝ }
 {
-    same_refusal(a.refusal, c.refusal) && a.counter == c.counter
+    if a.counter != c.counter {
+        return false;
+    }
+    if a.rounds != c.rounds {
+        return false;
+    }
+    same_refusal(a.refusal, c.refusal)
 }
 
 // Whether the bytes written are the wanted ones: of a deadlock in any sequence.
@@ -88,9 +78,6 @@ fn same_result(c: Case, a: Answer, result: &[u8], wanted: &[u8]) -> bool
         return false;
     }
     if !same_head(c, a) {
-        return false;
-    }
-    if !free_rounds(a) {
         return false;
     }
     if !untouched(&result[len..]) {

@@ -1,15 +1,15 @@
--- What a test decides, where it is one answer or joined of two. Assumes nothing.
-use mathlib.Core.Bool.{Bool, true, false, _&&_}
+-- What a test decides. Assumes nothing.
+use mathlib.Core.Bool.{Bool, true, false}
 use mathlib.Core.Path.{_≡_, refl}
 use native.Mathlib.Omega.{arith}
-use Prim.Native.Nat.{ℕ, _≤_}
-use borrow.Author.Tests.{eq-eqb, eqb-true, le-leb, leb-true}
-use lib.Dec.{eqb, leb}
+use Prim.Native.Nat.{ℕ}
+use borrow.Author.Tests.{eq-eqb, eqb-true}
+use lib.Dec.{eqb}
 use Rattle.names.proofs.Same.{same→eq, same-self}
 use Rattle.names.specs.Names.{Bytes, same}
 use Rattle.names.specs.Refusals.{place-at, refusing}
 use Rattle.names.specs.declared.Refusal.{Refusal}
-use Rattle.replays.specs.declared.Verdict.the-variants.{Agrees, Differs}
+use Rattle.replays.specs.declared.Verdict.the-variants.{Agrees}
 use Rattle.replays.specs.Judging.{Decides, judged-as}
 
 module _ {A : Type 0} where
@@ -33,22 +33,14 @@ decides-same x y = record { only = λ e. same→eq x y (rw e tt); all = λ e. rw
 pub decides-by : {A : Type 0} (m n : ℕ) → (m ≡ n → A) → (A → m ≡ n) → Decides (eqb m n) A
 decides-by m n to from = decides-as to from (decides-equal m n)
 
--- and one is at most the other
-pub decides-within : {A : Type 0} (m n : ℕ) → (m ≤ n → A) → (A → m ≤ n) → Decides (leb m n) A
-decides-within m n to from = record { only = λ e. to (leb-true m n e); all = λ a. le-leb m n (from a) }
-
 -- a judged case that agrees was tested so
 pub judged-agrees : (t : Bool) → judged-as t ≡ Agrees → t ≡ true
 judged-agrees true e = refl
 judged-agrees false e = let z : _≡_ {A = ℕ} 0 1 = cc in absurd (omega arith)
 
 -- a test that fails
-module _ {b : Bool} {B : Type 0} (fails : b ≡ false) (d : Decides b B) where
-  pub fails-not : B → ⊥
-  fails-not x = let e = d .all x in let z : _≡_ {A = ℕ} 0 1 = cc in omega arith
-
-  pub decides-stop : {A : Type 0} → (A → B) → Decides b A
-  decides-stop to = record { only = λ e. let z : _≡_ {A = ℕ} 0 1 = cc in absurd (omega arith); all = λ a. d .all (to a) }
+pub fails-not : {b : Bool} {B : Type 0} → b ≡ false → Decides b B → B → ⊥
+fails-not fails d x = let e = d .all x in let z : _≡_ {A = ℕ} 0 1 = cc in omega arith
 
 -- a refusal is its number and its place
 pub same-parts : {a b : Refusal} → a .number ≡ b .number → a .place .start ≡ b .place .start → a ≡ b

@@ -11,6 +11,7 @@ use Rattle.records.specs.Read.{computing-read, readers}
 use Rattle.records.specs.ReadFields.{Reader}
 use Rattle.records.specs.Sexps.{computing-sexps}
 use Rattle.records.specs.Records.{computing-records, Helper, Form, form-bytes, helper-bytes}
+use Rattle.ordering.specs.Rounds.{computing-rounds}
 use Rattle.ordering.specs.Toposort.{computing-toposort}
 use Rattle.ordering.specs.OrderCall.{computing-order-call}
 use Rattle.ordering.specs.Words.{computing-words}
@@ -65,5 +66,5 @@ helper-visits F work c input = visits (events (helper-run F work c input))
 
 -- unfolds with every definition of the calls and of what they cite
 unfoldable pub computing-all : Unit {0}
-unfolding computing-names computing-maps computing-answers computing-records computing-sexps computing-read computing-opened computing-toposort computing-words computing-order-call computing-rename-in-cons computing-steps computing-invent computing-patterns computing-bodyforms computing-helperforms call-run whole-run children-run helper-run answered whole-call children-call helper-call whole-visits children-visits helper-visits
+unfolding computing-names computing-maps computing-answers computing-records computing-sexps computing-read computing-opened computing-rounds computing-toposort computing-words computing-order-call computing-rename-in-cons computing-steps computing-invent computing-patterns computing-bodyforms computing-helperforms call-run whole-run children-run helper-run answered whole-call children-call helper-call whole-visits children-visits helper-visits
 computing-all = tt

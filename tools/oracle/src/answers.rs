@@ -57,12 +57,14 @@ pub struct Case {
     pub input: Bytes,
 }
 
-/// `output` is what is written at the front of the result buffer.
+/// `rounds` are those of an order that is accepted, and 0 in every other answer. `output` is what is written at the front of the
+/// result buffer.
 #[derive(Clone, Debug, PartialEq, Eq)]
 pub struct Answer {
     pub number: u64,
     pub place: u64,
     pub counter: u64,
+    pub rounds: u64,
     pub output: Bytes,
 }
 
@@ -121,14 +123,14 @@ pub fn read(call: Call, input: &[u8]) -> Result<Opened, Refusal> {
 }
 
 fn refused(case: &Case, refusal: Refusal) -> Answer {
-    Answer { number: refusal.number, place: refusal.place, counter: case.counter, output: Bytes::new() }
+    Answer { number: refusal.number, place: refusal.place, counter: case.counter, rounds: 0, output: Bytes::new() }
 }
 
 fn delivered(case: &Case, output: Bytes, counter: u64) -> Answer {
     if output.len() > case.buffer {
         return refused(case, Refusal { number: 8, place: 0 });
     }
-    Answer { number: 0, place: 0, counter, output }
+    Answer { number: 0, place: 0, counter, rounds: 0, output }
 }
 
 fn name(case: &Case) -> Checked<Answer> {
@@ -151,7 +153,9 @@ fn order_answer(case: &Case, assign: &Let) -> Checked<Answer> {
     }
     let modelled = ordering::toposort_assign_bindings(&assign.bindings);
     match (rust_order(assign)?, modelled) {
-        (Ok(indices), Toposorted::Ordered(same)) if indices == same => Ok(delivered(case, as_bytes(&indices), case.counter)),
+        (Ok(indices), Toposorted::Ordered(same)) if indices == same => {
+            Ok(Answer { rounds: ordering::rounds(&assign.bindings), ..delivered(case, as_bytes(&indices), case.counter) })
+        }
         (Err(refusal), Toposorted::Deadlock(stuck)) => Ok(Answer { output: as_bytes(&stuck), ..refused(case, refusal) }),
         (rust, modelled) => Err(format!("the Rust orders {rust:?}, the model {modelled:?}")),
     }

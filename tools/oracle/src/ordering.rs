@@ -1,4 +1,4 @@
-//! The model's needs, provisions and exact order of an assign's bindings.
+//! The model's needs, provisions, exact order and rounds of an assign's bindings.
 
 use crate::records::{Binding, Body, Bytes, Kind, Lambda, Let, Pattern, Sexp};
 use std::collections::BTreeSet;
@@ -36,6 +36,22 @@ pub fn turns(bindings: &[Binding]) -> (Toposorted, u32) {
         }
     }
     (Toposorted::Ordered(row), turns)
+}
+
+/// How many rounds hold a binding: round 1 has those that need nothing, a later one those not yet placed whose every needed name is
+/// provided by a binding of the rounds before it.
+pub fn rounds(bindings: &[Binding]) -> u64 {
+    let has: Vec<Names> = bindings.iter().map(provisions).collect();
+    let needs: Vec<Names> = bindings.iter().map(|binding| needed(&binding.body, &has)).collect();
+    let mut rounds: Vec<Vec<usize>> = Vec::new();
+    let mut round: Vec<usize> = (0..bindings.len()).filter(|index| needs[*index].is_empty()).collect();
+    while !round.is_empty() {
+        rounds.push(round);
+        let placed = rounds.concat();
+        let provided = |name: &Bytes| placed.iter().any(|earlier| has[*earlier].contains(name));
+        round = (0..bindings.len()).filter(|index| !placed.contains(index) && needs[*index].iter().all(provided)).collect();
+    }
+    rounds.len() as u64
 }
 
 fn provisions(binding: &Binding) -> Names {

@@ -11,15 +11,15 @@ use crate::answers::{self, Case, Checked};
 use crate::records::Bytes;
 use crate::stored::{distinct, one_byte, two_bytes};
 
-/// F and the input's length in two bytes each, the counter in eight, the place in four, the rest in one; then the bytes written, and
-/// the input.
+/// F in two bytes, the counter in eight, the length of the buffer and the number in one each, the place in four, the rounds and how
+/// many bytes are written in one each, the length of the input in two; then the bytes written, and the input.
 pub fn stored(case: &Case) -> Checked<Bytes> {
     let answer = answers::answer(case)?;
     let mut bytes = two_bytes(case.f as usize).to_vec();
     bytes.extend(case.counter.to_be_bytes());
     bytes.extend([one_byte(case.buffer), one_byte(answer.number as usize)]);
     bytes.extend(u32::try_from(answer.place).expect("a place of four bytes").to_be_bytes());
-    bytes.push(one_byte(answer.output.len()));
+    bytes.extend([one_byte(answer.rounds as usize), one_byte(answer.output.len())]);
     bytes.extend(two_bytes(case.input.len()));
     bytes.extend(&answer.output);
     bytes.extend(&case.input);

@@ -1,7 +1,8 @@
 //! Vector lines as an antt file: batches of rows, each proved by computing what the definitions answer.
 //!
-//! A row compares number, place, counter, length and the whole result buffer, which is filled with 7 before the call. The `rounds` of
-//! the order call are free and are not looked at. With number 5 its stuck bindings are compared in the row's sequence.
+//! A row compares number, place, counter, rounds, length and the whole result buffer, which is filled with 7 before the call. The rounds
+//! of an order are counted in its input, since a vector line does not have them. With number 5 its stuck bindings are compared in the
+//! row's sequence.
 
 use crate::answers::{walked, Answer, Case};
 use crate::vectors::{answer_of, case_of, hex};
@@ -51,12 +52,12 @@ answer whole f w c input buffer = whole-call f w c input buffer
 answer children f w c input buffer = children-call f w c input buffer
 answer helper f w c input buffer = helper-call f w c input buffer
 
--- number, place, counter, length, the whole buffer
+-- number, place, counter, rounds, length, the whole buffer
 abbrev pub Seen : Type 0
-Seen = ℕ × ℕ × ℕ × ℕ × Bytes
+Seen = ℕ × ℕ × ℕ × ℕ × ℕ × Bytes
 
 abbrev pub seen : Result → Seen
-seen r = (r .0 .refusal .number, r .0 .refusal .place .start, r .0 .counter, r .0 .len, r .1)
+seen r = (r .0 .refusal .number, r .0 .refusal .place .start, r .0 .counter, r .0 .rounds, r .0 .len, r .1)
 
 -- with a buffer of b bytes 7
 abbrev pub run : Call → ℕ → ℕ → ℕ → ℕ → String → Seen
@@ -65,8 +66,8 @@ run k f w c b input = seen (answer k f w c (hex input) (replicate b 7))
 abbrev pub padded : ℕ → Bytes → Bytes
 padded b out = out ++ replicate (b - length out) 7
 
-abbrev pub gave : ℕ → ℕ → ℕ → ℕ → String → Seen
-gave n p c b out = (n, p, c, length (hex out), padded b (hex out))
+abbrev pub gave : ℕ → ℕ → ℕ → ℕ → ℕ → String → Seen
+gave n p c r b out = (n, p, c, r, length (hex out), padded b (hex out))
 ";
 
 const UNFOLDING: &str = "computing-all";
@@ -100,9 +101,12 @@ pub fn rows(lines: &[String], most: usize) -> Result<(), String> {
 
 fn row(case: &Case, answer: &Answer) -> String {
     let Case { call, f, work, counter, buffer, input } = case;
-    let Answer { number, place, counter: after, output } = answer;
+    let Answer { number, place, counter: after, rounds, output } = answer;
     let (input, output) = (quoted(input), quoted(output));
-    format!("(run {} {f} {work} {counter} {buffer} {input}, gave {number} {place} {after} {buffer} {output})", call.word())
+    format!(
+        "(run {} {f} {work} {counter} {buffer} {input}, gave {number} {place} {after} {rounds} {buffer} {output})",
+        call.word()
+    )
 }
 
 fn quoted(bytes: &[u8]) -> String {

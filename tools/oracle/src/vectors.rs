@@ -1,6 +1,8 @@
-//! Vector lines: `call F work counter buffer input-hex -> number place counter output-hex`. No bytes are written as `-`.
+//! Vector lines: `call F work counter buffer input-hex -> number place counter output-hex`. No bytes are written as `-`. A line does
+//! not have the rounds of an order.
 
-use crate::answers::{Answer, Call, Case};
+use crate::answers::{self, Answer, Call, Case, Opened};
+use crate::ordering;
 use crate::records::Bytes;
 
 pub fn hex(bytes: &[u8]) -> String {
@@ -30,7 +32,7 @@ pub fn left(case: &Case) -> String {
 }
 
 pub fn line(case: &Case, answer: &Answer) -> String {
-    let Answer { number, place, counter, output } = answer;
+    let Answer { number, place, counter, output, .. } = answer;
     format!("{} -> {number} {place} {counter} {}", left(case), hex(output))
 }
 
@@ -55,11 +57,22 @@ pub fn case_of(line: &str) -> Result<Case, String> {
     })
 }
 
+/// The answer of a line, with the rounds that its case has.
 pub fn answer_of(line: &str) -> Result<Answer, String> {
     let right = line.split_once("->").map(|(_, right)| right).unwrap_or_default();
     let words: Vec<&str> = right.split_whitespace().collect();
     let [n, place, counter, output] = words[..] else {
         return Err(format!("four words expected after ->: {line}"));
     };
-    Ok(Answer { number: number(n)?, place: number(place)?, counter: number(counter)?, output: from_hex(output)? })
+    let (case, n) = (case_of(line)?, number(n)?);
+    let rounds = rounds(&case, n);
+    Ok(Answer { number: n, place: number(place)?, counter: number(counter)?, rounds, output: from_hex(output)? })
+}
+
+/// Those of the assign in an order that is accepted, else 0.
+fn rounds(case: &Case, number: u64) -> u64 {
+    match (number, answers::read(case.call, &case.input)) {
+        (0, Ok(Opened::Assign(assign))) => ordering::rounds(&assign.bindings),
+        _ => 0,
+    }
 }

@@ -25,13 +25,17 @@ place-at-requires c κs = search needs
 refusing-requires : tie.Need-refusing-requires
 refusing-requires c κs = search needs
 
+number-requires-5 : tie.Need-number-requires-5
+number-requires-5 c κs = search needs
+
 returns : tie.Need-returns
 returns c =
-    let d = c .before .before in
+    let r = c .before .before in
+    let d = r .before .before in
     let n = d .before .before in
     let k = n .before .before in
     let f = k .before .before in
-    case-parts (f .before .before .args .head .now) (f .number .ensures .0) (k .number2 .ensures .0) (c .refusing .ensures) (n .number3 .ensures .0) (c .before .place-at .ensures) (d .number4 .ensures .0)
+    case-parts (f .before .before .args .head .now) (f .number .ensures .0) (k .number2 .ensures .0) (r .refusing .ensures) (n .number3 .ensures .0) (r .before .place-at .ensures) (d .number4 .ensures .0) (c .number5 .ensures .0)
 
 pub case-of-spec : {M : Type 1} → statement M
 case-of-spec =
@@ -44,4 +48,5 @@ case-of-spec =
     number-requires-4
     place-at-requires
     refusing-requires
+    number-requires-5
     returns)

@@ -1,9 +1,10 @@
 -- `commands::order::names` is safe and ends: an assign stands in s, so its names can be listed. Assumes nothing.
 use borrow.Author.Needs.{needs}
-use mathlib.Core.Path.{refl, sym}
+use mathlib.Core.List.{_++_}
+use mathlib.Core.Path.{_≡_, refl, sym}
 use native.Mathlib.Omega.{arith}
-use Prim.Native.Nat.{_≤_}
-use lib.ListN.{length, take, replicate}
+use Prim.Native.Nat.{ℕ, _≤_}
+use lib.ListN.{length, take, drop, replicate}
 use lib.Seq.{length-front, length-take-le}
 use Rattle.ordering.specs.Needs.{binding-limit}
 use Rattle.ordering.specs.Provisions.{Given}
@@ -46,14 +47,13 @@ listed c =
     (f .few, provisions-given _ _ _ (f .provisions) (omega (arith, w .0 .count, w .1)))
 
 -- the places of the bodies stand at the front of their array
-slice-aggregate-print-stuck-2 : tie.Need-slice-aggregate-print-stuck-2
-slice-aggregate-print-stuck-2 c =
+abbrev count : tie.After-find-names → ℕ
+count c =
     let back = c .before .before .before in
-    let at-find-names = back .before .before in
-    let back-2 = at-find-names .before .before .before in
-    let at-let-view = back-2 .before in
-    let g = at-find-names .find-names in
-    sym (length-front (replicate binding-limit 0) (g .last .1 .1 .1 .0) (at-let-view .let-view .result .count) (g .kept .1 .1 .1 .0))
+    back .before .let-view .result .count
+
+front : (c : tie.After-find-names) → binding-limit ≡ length (c .find-names .last .1 .1 .1 .0 ++ drop (count c) (replicate binding-limit 0))
+front c = sym (length-front (replicate binding-limit 0) (c .find-names .last .1 .1 .1 .0) (count c) (c .find-names .kept .1 .1 .1 .0))
 
 pub names-spec : {M : Type 1} → statement M
 names-spec =
@@ -67,11 +67,12 @@ names-spec =
     find-names-requires
     (λ c. listed (c .before .before .before) .0)
     (λ c. let shared = c .before in sym (length-take-le _ _ (listed (shared .before .before .before) .0)))
-    slice-aggregate-print-stuck-2
+    (λ c. let shared = c .before .before in front (shared .before .before .before))
     (λ c κs. search needs)
     (λ c κs. let shared = c .before .before .before in listed (shared .before .before .before) .1)
     (λ c. listed (c .before .before .before) .0)
     (λ c. let shared = c .before in sym (length-take-le _ _ (listed (shared .before .before .before) .0)))
-    (λ c κs. search needs)
+    (λ c. let shared = c .before .before in front (shared .before .before .before))
+    (λ c κs. let shared = c .before .before in listed (shared .before .before .before) .1)
     (λ c. search needs)
     (λ c. search needs))

@@ -20,12 +20,6 @@ slice-aggregate-text c = search needs
 text-requires : tie.Need-text-requires
 text-requires c κs = search needs
 
-slice-aggregate-text-2 : tie.Need-slice-aggregate-text-2
-slice-aggregate-text-2 c = search needs
-
-text-requires-2 : tie.Need-text-requires-2
-text-requires-2 c κs = search needs
-
 array-share-prefix-row : tie.Need-array-share-prefix-row
 array-share-prefix-row c = search needs
 
@@ -38,11 +32,11 @@ told-requires c κs = search needs
 print-requires : tie.Need-print-requires
 print-requires c κs = search needs
 
-slice-aggregate-text-3 : tie.Need-slice-aggregate-text-3
-slice-aggregate-text-3 c = search needs
+slice-aggregate-text-2 : tie.Need-slice-aggregate-text-2
+slice-aggregate-text-2 c = search needs
 
-text-requires-3 : tie.Need-text-requires-3
-text-requires-3 c κs = search needs
+text-requires-2 : tie.Need-text-requires-2
+text-requires-2 c κs = search needs
 
 array-share-prefix-row-2 : tie.Need-array-share-prefix-row-2
 array-share-prefix-row-2 c = search needs
@@ -74,14 +68,12 @@ ordered-spec =
     returns
     slice-aggregate-text
     text-requires
-    slice-aggregate-text-2
-    text-requires-2
     array-share-prefix-row
     slice-aggregate-told
     told-requires
     print-requires
-    slice-aggregate-text-3
-    text-requires-3
+    slice-aggregate-text-2
+    text-requires-2
     array-share-prefix-row-2
     slice-aggregate-told-2
     told-requires-2

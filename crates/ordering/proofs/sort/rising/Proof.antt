@@ -6,7 +6,7 @@ use Prim.Native.Nat.{ℕ, _-_, _≤_, _<_}
 use borrow.Author.Count.{below-none, below-more}
 use lib.ListN.{length, getD, set, length-set}
 use lib.Seq.{ext-getD, getD-set-same, getD-set-other}
-use Rattle.ordering.specs.Toposort.{indices-from}
+use Rattle.ordering.specs.Items.{indices-from}
 use Rattle.ordering.proofs.Rows.{length-count, count-at}
 use Rattle.ordering.proofs.sort.rising.Statement.{statement}
 use Rattle.ordering.proofs.sort.rising.Tie as tie

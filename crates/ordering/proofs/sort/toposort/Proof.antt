@@ -8,7 +8,7 @@ use lib.ListN.{length, getD}
 use Rattle.ordering.specs.Items.{Item}
 use Rattle.ordering.specs.Needs.{NeedsAt}
 use Rattle.ordering.specs.Toposort.{turn}
-use Rattle.ordering.proofs.Rounds.{Turned, none-turned, all-placed, none-placed, some-placed}
+use Rattle.ordering.proofs.Turned.{Turned, none-turned, all-placed, none-placed, some-placed}
 use Rattle.ordering.proofs.Rows.{count-below}
 use Rattle.ordering.proofs.sort.toposort.Statement.{statement}
 use Rattle.ordering.proofs.sort.toposort.Tie as tie
@@ -100,7 +100,7 @@ loop-again c =
 returns-2 : tie.Need-returns-2 Inv-loop μ-loop
 returns-2 c =
     let l = c .before .loop in
-    ((omega arith, omega arith), (l .inv .3, λ bs size at. all-placed bs (l .inv .4 bs (omega arith) at) (omega arith)))
+    ((omega arith, omega arith), (l .inv .3, λ bs size at. all-placed bs (l .inv .4 bs (omega arith) at) (omega arith) (omega arith)))
 
 pub toposort-spec : {M : Type 1} → statement M
 toposort-spec =
@@ -108,11 +108,11 @@ toposort-spec =
     (tie.spec Inv-loop μ-loop
     (λ c κs. omega arith)
     loop-holds
+    (λ c. omega arith)
     (λ c κs. ((omega arith, omega arith), c .before .before .loop .inv .3))
     turn-requires
     (λ c. omega arith)
     returns
-    (λ c. omega arith)
     (λ c. omega arith)
     loop-again
     (λ c. omega arith)

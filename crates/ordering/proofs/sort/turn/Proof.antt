@@ -6,9 +6,8 @@ use native.Mathlib.Nat.{sub-self}
 use native.Mathlib.Omega.{arith}
 use Prim.Native.Nat.{_+_, _-_, _≤_, _<_}
 use lib.ListN.{length, getD, take, length-set}
-use Rattle.ordering.specs.Items.{Item}
+use Rattle.ordering.specs.Items.{Item, ready}
 use Rattle.ordering.specs.Needs.{TurnStart}
-use Rattle.ordering.specs.Toposort.{ready}
 use Rattle.ordering.proofs.Pass.{Passed, begins, stays, places, ends}
 use Rattle.ordering.proofs.Search.{met-from, none-seen, not-met, one-met, all-met}
 use Rattle.ordering.proofs.sort.turn.Statement.{statement}
