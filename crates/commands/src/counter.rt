@@ -5,7 +5,7 @@ ghost use Rattle.commands.specs.Counters.{counter_of};
 use crate::say;
 
 // A counter that was read, or nothing.
-#[derive(Drop)]
+#[derive(Clone, Copy)]
 pub enum Counter {
     Is(u64),
     Nothing,

@@ -4,7 +4,7 @@ ghost use Rattle.std.specs.Prelude.{◌≤◌, length};
 use crate::say;
 
 // Whether a file was read, and how many of its bytes stand at the front of the buffer.
-#[derive(Drop)]
+#[derive(Clone, Copy)]
 pub struct Contents {
     pub read: bool,
     pub len: usize,

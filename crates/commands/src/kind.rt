@@ -7,7 +7,7 @@ use names::bytes::same;
 use records::Wanted;
 
 // A kind that was read, or nothing.
-#[derive(Drop)]
+#[derive(Clone, Copy)]
 pub enum Kind {
     Is(Wanted),
     Nothing,

@@ -2,6 +2,8 @@
 //
 // Results go to standard output. What is refused, and what is wrong with an argument or a file, goes
 // to the descriptor that a command is given.
+#![tactic(auto)]
+
 pub mod check;
 mod columns;
 pub mod counter;

@@ -10,7 +10,7 @@ use names::bytes::put;
 const LINE: usize = 64;
 
 // What a refusal means.
-#[derive(Drop)]
+#[derive(Clone, Copy)]
 pub enum Words {
     CounterAbove,
     LongestOutside,
@@ -25,7 +25,7 @@ pub enum Words {
 }
 
 // Which place is shown behind the words.
-#[derive(Drop)]
+#[derive(Clone, Copy)]
 pub enum Shown {
     Nothing,
     Offset,

@@ -2,6 +2,8 @@
 //
 // `name` has the call Name, `order` the call Order, `forms` the calls Whole form, Children only and
 // Single helper, `page` the call Page, `read` reading alone, and `tell` how an answer is told.
+#![tactic(auto)]
+
 pub mod forms;
 pub mod name;
 pub mod order;

@@ -2,6 +2,8 @@
 //
 // `bytes` has what works on plain bytes, `make` the names that `gensym` makes, `map` what a map
 // makes of a name, `refusals` places and refusals, and `call` what a call answers and the call Name.
+#![tactic(auto)]
+
 pub mod bytes;
 pub mod call;
 pub mod make;
@@ -18,20 +20,20 @@ pub const NAME_LIMIT: usize = 255;
 pub const MAX_COUNTER: u64 = 4294967295;
 
 // What comparing two names answers: whether they are equal, and how many byte pairs were read.
-#[derive(Drop)]
+#[derive(Clone, Copy)]
 pub struct Compared {
     pub equal: bool,
     pub pairs: usize,
 }
 
 // A place: the offset of a byte in the input, or a location.
-#[derive(Drop)]
+#[derive(Clone, Copy)]
 pub struct Place {
     pub start: u64,
 }
 
 // A refusal: its number and its place. The number is 0 where nothing is refused.
-#[derive(Drop)]
+#[derive(Clone, Copy)]
 pub struct Refusal {
     pub number: u32,
     pub place: Place,
@@ -39,7 +41,7 @@ pub struct Refusal {
 
 // What a call answers: its refusal, the counter to go on from, the rounds of an order, and how many
 // bytes it wrote at the front of the result buffer.
-#[derive(Drop)]
+#[derive(Clone, Copy)]
 pub struct Answer {
     pub refusal: Refusal,
     pub counter: u64,

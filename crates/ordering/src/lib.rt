@@ -2,6 +2,8 @@
 //
 // `provides` says which bindings provide a name, `needs` what a body needs, `sort` has the exact
 // order over needs, `assign` the order of an assign's bindings, and `call` the call Order.
+#![tactic(auto)]
+
 use records::COUNT_LIMIT;
 
 pub mod assign;
@@ -21,14 +23,14 @@ pub const PLACES: usize = 65536;
 pub const NEED_LIMIT: usize = 4096;
 
 // How many entries are listed, and where the record that they were read from ends.
-#[derive(Drop)]
+#[derive(Clone, Copy)]
 pub struct Listed {
     pub count: usize,
     pub end: usize,
 }
 
 // How many indices of a row are placed, and in how many rounds.
-#[derive(Drop)]
+#[derive(Clone, Copy)]
 pub struct Sorted {
     pub placed: usize,
     pub rounds: usize,
@@ -36,7 +38,7 @@ pub struct Sorted {
 
 // The order of `count` bindings. With all of them placed the row is the order; at a deadlock what
 // stands in it from `placed` on is stuck. `rounds` is the number of nonempty rounds either way.
-#[derive(Drop)]
+#[derive(Clone, Copy)]
 pub struct Order {
     pub row: [u8; BINDING_LIMIT],
     pub count: usize,

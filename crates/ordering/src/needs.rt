@@ -37,7 +37,7 @@ fn word(a: &[u8], given: &[usize], name: &[u8], needs: &mut [u64], n: usize) -> 
 }
 
 // The names of the S record at the start of s.
-#[cycle(child_sexp_sexp_needs)]
+#[cycle(sexp_words)]
 fn sexp_needs(a: &[u8], given: &[usize], s: &[u8], needs: &mut [u64], n: usize) -> Listed
     requires { Given a.now given.now × (n ≤ length needs.old) }
     ensures { ListsSexp a.now given.now s.now 0 needs.old needs.new n result }
@@ -65,7 +65,7 @@ fn sexp_needs(a: &[u8], given: &[usize], s: &[u8], needs: &mut [u64], n: usize) 
 }
 
 // The names of the S record at a place.
-#[cycle(child_sexp_sexp_needs)]
+#[cycle(sexp_words)]
 fn child_sexp(a: &[u8], given: &[usize], s: &[u8], at: usize, needs: &mut [u64], n: usize) -> Listed
     requires { Given a.now given.now × (at ≤ length s.now) × (n ≤ length needs.old) }
     ensures { ListsSexp a.now given.now s.now at needs.old needs.new n result }
@@ -95,7 +95,7 @@ fn truthy(s: &[u8]) -> bool
 }
 
 // The names of the body at the start of s.
-#[cycle(binding_needs_body_needs_call_needs_child_lambda_needs_let_needs_member_needs_times)]
+#[cycle(body_words)]
 pub fn body_needs(a: &[u8], given: &[usize], s: &[u8], needs: &mut [u64], n: usize) -> Listed
     requires { Given a.now given.now × (n ≤ length needs.old) }
     ensures { ListsBody a.now given.now s.now 0 needs.old needs.new n result }
@@ -130,7 +130,7 @@ fn let_word(a: &[u8], given: &[usize], kind: u8, needs: &mut [u64], n: usize) ->
 }
 
 // The names of a BL.
-#[cycle(binding_needs_body_needs_call_needs_child_lambda_needs_let_needs_member_needs_times)]
+#[cycle(body_words)]
 fn let_needs(a: &[u8], given: &[usize], s: &[u8], needs: &mut [u64], n: usize) -> Listed
     requires { Given a.now given.now × (n ≤ length needs.old) }
     ensures { ReachesKind 0 a.now given.now s.now 0 needs.old needs.new n result }
@@ -146,7 +146,7 @@ fn let_needs(a: &[u8], given: &[usize], s: &[u8], needs: &mut [u64], n: usize) -
 }
 
 // The names of a BC.
-#[cycle(binding_needs_body_needs_call_needs_child_lambda_needs_let_needs_member_needs_times)]
+#[cycle(body_words)]
 fn call_needs(a: &[u8], given: &[usize], s: &[u8], needs: &mut [u64], n: usize) -> Listed
     requires { Given a.now given.now × (n ≤ length needs.old) }
     ensures { ReachesKind 3 a.now given.now s.now 0 needs.old needs.new n result }
@@ -169,7 +169,7 @@ fn call_needs(a: &[u8], given: &[usize], s: &[u8], needs: &mut [u64], n: usize) 
 }
 
 // The names of a BF: `to_sexp` writes no captures.
-#[cycle(binding_needs_body_needs_call_needs_child_lambda_needs_let_needs_member_needs_times)]
+#[cycle(body_words)]
 fn lambda_needs(a: &[u8], given: &[usize], s: &[u8], needs: &mut [u64], n: usize) -> Listed
     requires { Given a.now given.now × (n ≤ length needs.old) }
     ensures { ReachesKind 5 a.now given.now s.now 0 needs.old needs.new n result }
@@ -203,7 +203,7 @@ fn capture_needs(
 }
 
 // The names of a BB.
-#[cycle(binding_needs_body_needs_call_needs_child_lambda_needs_let_needs_member_needs_times)]
+#[cycle(body_words)]
 fn binding_needs(a: &[u8], given: &[usize], s: &[u8], needs: &mut [u64], n: usize) -> Listed
     requires { Given a.now given.now × (n ≤ length needs.old) }
     ensures { ReachesMember 0 true a.now given.now s.now 0 needs.old needs.new n result }
@@ -240,7 +240,7 @@ fn pattern_needs(
 
 // The names of the binding or body at a place. None stands at the mark around it; on bytes that are
 // no record the test makes the recursion end.
-#[cycle(binding_needs_body_needs_call_needs_child_lambda_needs_let_needs_member_needs_times)]
+#[cycle(body_words)]
 fn child(
     a: &[u8],
     given: &[usize],
@@ -264,7 +264,7 @@ fn child(
 }
 
 // The names of the binding or body at the start of s.
-#[cycle(binding_needs_body_needs_call_needs_child_lambda_needs_let_needs_member_needs_times)]
+#[cycle(body_words)]
 fn member_needs(
     a: &[u8],
     given: &[usize],
@@ -284,7 +284,7 @@ fn member_needs(
 }
 
 // The names of `count` bindings or bodies from a place on, behind the needs listed so far.
-#[cycle(binding_needs_body_needs_call_needs_child_lambda_needs_let_needs_member_needs_times)]
+#[cycle(body_words)]
 fn times(
     a: &[u8],
     given: &[usize],

@@ -16,7 +16,7 @@ use records::past::{
 use records::{LOC_WIDTH, MARK_WIDTH};
 
 // The entries of the record that s starts with.
-#[cycle(child_field_fields_index_pattern_several_tail)]
+#[cycle(indexing)]
 pub fn index(s: &[u8], mem: &mut [u8], a: Around) -> Counted
     requires { IndexRoom s.now mem.old a }
     ensures { Indexes s.now mem.old mem.new a result }
@@ -72,7 +72,7 @@ fn under(mark: Mark, a: Around) -> Around
 }
 
 // The entries of the fields behind a mark.
-#[cycle(child_field_fields_index_pattern_several_tail)]
+#[cycle(indexing)]
 fn fields(row: [Field; MOST_FIELDS], s: &[u8], mem: &mut [u8], a: Around) -> Counted
     requires { (length row ≡ most_fields) × Begun s.now mem.old a (counted_to 1 mark_width) }
     ensures { IndexesOn (FieldsAre row) s.now mem.old mem.new a (counted_to 1 mark_width) result }
@@ -91,7 +91,7 @@ fn fields(row: [Field; MOST_FIELDS], s: &[u8], mem: &mut [u8], a: Around) -> Cou
 }
 
 // The entries of a field.
-#[cycle(child_field_fields_index_pattern_several_tail)]
+#[cycle(indexing)]
 fn field(f: Field, s: &[u8], mem: &mut [u8], a: Around, c: Counted) -> Counted
     requires { Begun s.now mem.old a c }
     ensures { IndexesOn (FieldIs f) s.now mem.old mem.new a c result }
@@ -129,7 +129,7 @@ fn past_field(f: Field, s: &[u8], at: usize) -> usize
 }
 
 // A child record.
-#[cycle(child_field_fields_index_pattern_several_tail)]
+#[cycle(indexing)]
 fn child(s: &[u8], mem: &mut [u8], a: Around, c: Counted) -> Counted
     requires { Begun s.now mem.old a c }
     ensures { IndexesOn (FieldIs Field.Record) s.now mem.old mem.new a c result }
@@ -152,7 +152,7 @@ fn child(s: &[u8], mem: &mut [u8], a: Around, c: Counted) -> Counted
 }
 
 // A Name or a Complex pattern.
-#[cycle(child_field_fields_index_pattern_several_tail)]
+#[cycle(indexing)]
 fn pattern(s: &[u8], mem: &mut [u8], a: Around, c: Counted) -> Counted
     requires { Begun s.now mem.old a c }
     ensures { IndexesOn (FieldIs Field.Pattern) s.now mem.old mem.new a c result }
@@ -176,7 +176,7 @@ fn pattern(s: &[u8], mem: &mut [u8], a: Around, c: Counted) -> Counted
 }
 
 // The tail of a call.
-#[cycle(child_field_fields_index_pattern_several_tail)]
+#[cycle(indexing)]
 fn tail(s: &[u8], mem: &mut [u8], a: Around, c: Counted) -> Counted
     requires { Begun s.now mem.old a c }
     ensures { IndexesOn (FieldIs Field.Tail) s.now mem.old mem.new a c result }
@@ -192,7 +192,7 @@ fn tail(s: &[u8], mem: &mut [u8], a: Around, c: Counted) -> Counted
 }
 
 // A count, and that many records.
-#[cycle(child_field_fields_index_pattern_several_tail)]
+#[cycle(indexing)]
 fn several(s: &[u8], mem: &mut [u8], a: Around, c: Counted) -> Counted
     requires { Begun s.now mem.old a c }
     ensures { IndexesOn (FieldIs Field.Several) s.now mem.old mem.new a c result }

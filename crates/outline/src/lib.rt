@@ -2,13 +2,15 @@
 //
 // `marks` knows a record by its mark and the fields that follow it, `index` lists the records of a
 // record, `entries` writes and reads the list, and `page` has the call Page.
+#![tactic(auto)]
+
 pub mod entries;
 pub mod index;
 pub mod marks;
 pub mod page;
 
 // The mark of each kind of record.
-#[derive(Drop)]
+#[derive(Clone, Copy)]
 pub enum Mark {
     Nil,
     Pair,
@@ -32,7 +34,7 @@ pub enum Mark {
 }
 
 // The fields behind a mark: bytes, records, or bytes that say which and how many records follow.
-#[derive(Drop)]
+#[derive(Clone, Copy)]
 pub enum Field {
     Nothing,
     Byte,
@@ -53,7 +55,7 @@ pub const MOST_FIELDS: usize = 6;
 
 // Where a record stands: the offset of its mark, how many records stand around it, and whether one of
 // them is a BM.
-#[derive(Drop)]
+#[derive(Clone, Copy)]
 pub struct Around {
     pub offset: usize,
     pub depth: usize,
@@ -61,14 +63,14 @@ pub struct Around {
 }
 
 // What the index says of a record: where it stands, and its length.
-#[derive(Drop)]
+#[derive(Clone, Copy)]
 pub struct Entry {
     pub around: Around,
     pub len: usize,
 }
 
 // How many records are listed, and where the last of their bytes ends.
-#[derive(Drop)]
+#[derive(Clone, Copy)]
 pub struct Counted {
     pub count: usize,
     pub end: usize,
@@ -85,7 +87,7 @@ pub const LINE_WIDTH: usize = 72;
 
 // Where the first name field of a record stands that is its own: nowhere, at a place, or in a pattern
 // at a place.
-#[derive(Drop)]
+#[derive(Clone, Copy)]
 pub enum NamePlace {
     Nowhere,
     At(usize),
@@ -93,7 +95,7 @@ pub enum NamePlace {
 }
 
 // The name of a record, if it has one.
-#[derive(Drop)]
+#[derive(Clone, Copy)]
 pub enum Label {
     Unnamed,
     Named(records::NameView),

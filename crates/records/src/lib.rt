@@ -3,6 +3,8 @@
 // `input` reads what a call is given, `record`, `sexp` and `fields` read one record. Of a record that
 // was read, `skip` and `past` say how long it and its fields are, and `bodies`, `helpers` and `sexps`
 // where its fields and children start. `start` has where a reading starts.
+#![tactic(auto)]
+
 pub mod bodies;
 pub mod fields;
 pub mod helpers;
@@ -53,7 +55,7 @@ pub const MOST_LONGEST: usize = 16384;
 pub const WORK_FACTOR: usize = 256;
 
 // Where a record stands: in no assign's binding body; in one, and in no BM; in a BM.
-#[derive(Drop)]
+#[derive(Clone, Copy)]
 pub enum Zone {
     Plain,
     InBinding,
@@ -62,7 +64,7 @@ pub enum Zone {
 
 // What a record stands in: the offset of its mark, how many levels of B, H and CF records and of
 // BF records may follow, and its zone.
-#[derive(Drop)]
+#[derive(Clone, Copy)]
 pub struct Context {
     pub mark: usize,
     pub room: usize,
@@ -71,7 +73,7 @@ pub struct Context {
 }
 
 // The kinds of record that stand in a record.
-#[derive(Drop)]
+#[derive(Clone, Copy)]
 pub enum Family {
     Body,
     Binding,
@@ -82,7 +84,7 @@ pub enum Family {
 // How far a record is read: the offset of the next byte, from the record's mark; the refusal so
 // far; and one more than the offset of the first BM met in a binding body of an assign (0 for none).
 // A refused reading stands at the end of its bytes.
-#[derive(Drop)]
+#[derive(Clone, Copy)]
 pub struct Scan {
     pub at: usize,
     pub refusal: Refusal,
@@ -90,7 +92,7 @@ pub struct Scan {
 }
 
 // The record that a call wants: a CF, an H record, or one BL of kind 2.
-#[derive(Drop)]
+#[derive(Clone, Copy)]
 pub enum Wanted {
     Form,
     Helper,
@@ -98,28 +100,28 @@ pub enum Wanted {
 }
 
 // An input is accepted or refused.
-#[derive(Drop)]
+#[derive(Clone, Copy)]
 pub enum Opening {
     Accepted,
     Refused(Refusal),
 }
 
 // What a step read and wrote, and the counter that it left; or its refusal.
-#[derive(Drop)]
+#[derive(Clone, Copy)]
 pub enum Step {
     Done(usize, usize, u64),
     Refused(names::Refusal),
 }
 
 // The bytes of a name: where they start and end.
-#[derive(Drop)]
+#[derive(Clone, Copy)]
 pub struct NameView {
     pub start: usize,
     pub end: usize,
 }
 
 // A byte that says what follows, and where that starts.
-#[derive(Drop)]
+#[derive(Clone, Copy)]
 pub struct TaggedView {
     pub tag: u8,
     pub next: usize,
@@ -127,7 +129,7 @@ pub struct TaggedView {
 
 // A BL: its kind byte, where L, K and the hint start, the number of its bindings, and where the
 // first of them starts.
-#[derive(Drop)]
+#[derive(Clone, Copy)]
 pub struct LetView {
     pub kind: u8,
     pub loc: usize,
@@ -138,14 +140,14 @@ pub struct LetView {
 }
 
 // A BC: the number of its elements, and where the first of them starts.
-#[derive(Drop)]
+#[derive(Clone, Copy)]
 pub struct CallView {
     pub count: u8,
     pub first: usize,
 }
 
 // A BF: where K, the capture args, the captures, the args and the body start.
-#[derive(Drop)]
+#[derive(Clone, Copy)]
 pub struct LambdaView {
     pub keyword: usize,
     pub capture_args: usize,
@@ -155,7 +157,7 @@ pub struct LambdaView {
 }
 
 // A CF: where R and the args start, the number of its helpers, and where the first of them starts.
-#[derive(Drop)]
+#[derive(Clone, Copy)]
 pub struct FormView {
     pub raw: usize,
     pub args: usize,
@@ -164,7 +166,7 @@ pub struct FormView {
 }
 
 // Where a name and the R behind it start, and what stands after them.
-#[derive(Drop)]
+#[derive(Clone, Copy)]
 pub struct NamedView {
     pub name: usize,
     pub raw: usize,
@@ -172,7 +174,7 @@ pub struct NamedView {
 }
 
 // Where a name, the R and the args behind it start, and what stands after them.
-#[derive(Drop)]
+#[derive(Clone, Copy)]
 pub struct ArgsView {
     pub name: usize,
     pub raw: usize,
@@ -181,7 +183,7 @@ pub struct ArgsView {
 }
 
 // An HN: where its name and R start, the number of its helpers, and where the first of them starts.
-#[derive(Drop)]
+#[derive(Clone, Copy)]
 pub struct NamespaceView {
     pub name: usize,
     pub raw: usize,
@@ -191,7 +193,7 @@ pub struct NamespaceView {
 
 // An S record: where an SN ends; where the head of an SC starts; where the number of an SI, the text
 // of an SQ or the name of an SA starts and ends, which is where the record ends; or none of them.
-#[derive(Drop)]
+#[derive(Clone, Copy)]
 pub enum SexpView {
     Nil(usize),
     Pair(usize),

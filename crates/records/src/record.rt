@@ -148,7 +148,7 @@ fn pattern(s: &[u8], mark: usize, c: Scan) -> Scan
 }
 
 // The record at the start of s.
-#[cycle(binding_body_call_child_constant_form_function_helper_lambda_let_after_let_form_macro_form_many_mod_form_namespace_read_record_tail_times)]
+#[cycle(reading)]
 pub fn read_record(s: &[u8], x: Context, family: Family, c: Scan) -> Scan
     requires at_value { (c.at ≡ 0) × (c.refusal.number ≡ 0) }
     requires s_bound { x.mark + length s.now < 2 ^ 63 }
@@ -163,7 +163,7 @@ pub fn read_record(s: &[u8], x: Context, family: Family, c: Scan) -> Scan
 }
 
 // A child record.
-#[cycle(binding_body_call_child_constant_form_function_helper_lambda_let_after_let_form_macro_form_many_mod_form_namespace_read_record_tail_times)]
+#[cycle(reading)]
 fn child(s: &[u8], x: Context, family: Family, c: Scan) -> Scan
     requires at_in_bounds { c.at ≤ length s.now }
     requires s_bound { x.mark + length s.now < 2 ^ 63 }
@@ -183,7 +183,7 @@ fn child(s: &[u8], x: Context, family: Family, c: Scan) -> Scan
 }
 
 // n children.
-#[cycle(binding_body_call_child_constant_form_function_helper_lambda_let_after_let_form_macro_form_many_mod_form_namespace_read_record_tail_times)]
+#[cycle(reading)]
 fn times(s: &[u8], x: Context, family: Family, n: u8, c: Scan) -> Scan
     requires at_in_bounds { c.at ≤ length s.now }
     requires s_bound { x.mark + length s.now < 2 ^ 63 }
@@ -199,7 +199,7 @@ fn times(s: &[u8], x: Context, family: Family, n: u8, c: Scan) -> Scan
 }
 
 // A count, and that many children.
-#[cycle(binding_body_call_child_constant_form_function_helper_lambda_let_after_let_form_macro_form_many_mod_form_namespace_read_record_tail_times)]
+#[cycle(reading)]
 fn many(s: &[u8], x: Context, family: Family, c: Scan) -> Scan
     requires at_in_bounds { c.at ≤ length s.now }
     requires s_bound { x.mark + length s.now < 2 ^ 63 }
@@ -214,7 +214,7 @@ fn many(s: &[u8], x: Context, family: Family, c: Scan) -> Scan
 }
 
 // A B record.
-#[cycle(binding_body_call_child_constant_form_function_helper_lambda_let_after_let_form_macro_form_many_mod_form_namespace_read_record_tail_times)]
+#[cycle(reading)]
 fn body(s: &[u8], x: Context, c: Scan) -> Scan
     requires at_value { (c.at ≡ 0) × (c.refusal.number ≡ 0) }
     requires s_bound { x.mark + length s.now < 2 ^ 63 }
@@ -240,7 +240,7 @@ fn body(s: &[u8], x: Context, c: Scan) -> Scan
 }
 
 // What stands after the mark of a BL.
-#[cycle(binding_body_call_child_constant_form_function_helper_lambda_let_after_let_form_macro_form_many_mod_form_namespace_read_record_tail_times)]
+#[cycle(reading)]
 fn let_form(s: &[u8], x: Context, c: Scan) -> Scan
     requires at_in_bounds { c.at ≤ length s.now }
     requires s_bound { x.mark + length s.now < 2 ^ 63 }
@@ -255,7 +255,7 @@ fn let_form(s: &[u8], x: Context, c: Scan) -> Scan
 }
 
 // A let after its kind byte.
-#[cycle(binding_body_call_child_constant_form_function_helper_lambda_let_after_let_form_macro_form_many_mod_form_namespace_read_record_tail_times)]
+#[cycle(reading)]
 fn let_after(s: &[u8], x: Context, kind: u8, c: Scan) -> Scan
     requires at_in_bounds { c.at ≤ length s.now }
     requires s_bound { x.mark + length s.now < 2 ^ 63 }
@@ -278,7 +278,7 @@ fn let_after(s: &[u8], x: Context, kind: u8, c: Scan) -> Scan
 }
 
 // What stands after the mark of a BC.
-#[cycle(binding_body_call_child_constant_form_function_helper_lambda_let_after_let_form_macro_form_many_mod_form_namespace_read_record_tail_times)]
+#[cycle(reading)]
 fn call(s: &[u8], x: Context, c: Scan) -> Scan
     requires at_in_bounds { c.at ≤ length s.now }
     requires s_bound { x.mark + length s.now < 2 ^ 63 }
@@ -290,7 +290,7 @@ fn call(s: &[u8], x: Context, c: Scan) -> Scan
 }
 
 // The tail of a call.
-#[cycle(binding_body_call_child_constant_form_function_helper_lambda_let_after_let_form_macro_form_many_mod_form_namespace_read_record_tail_times)]
+#[cycle(reading)]
 fn tail(s: &[u8], x: Context, c: Scan) -> Scan
     requires at_in_bounds { c.at ≤ length s.now }
     requires s_bound { x.mark + length s.now < 2 ^ 63 }
@@ -308,7 +308,7 @@ fn tail(s: &[u8], x: Context, c: Scan) -> Scan
 }
 
 // What stands after the mark of a BM.
-#[cycle(binding_body_call_child_constant_form_function_helper_lambda_let_after_let_form_macro_form_many_mod_form_namespace_read_record_tail_times)]
+#[cycle(reading)]
 fn mod_form(s: &[u8], x: Context, c: Scan) -> Scan
     requires at_in_bounds { c.at ≤ length s.now }
     requires s_bound { x.mark + length s.now < 2 ^ 63 }
@@ -325,7 +325,7 @@ fn mod_form(s: &[u8], x: Context, c: Scan) -> Scan
 }
 
 // What stands after the mark of a BF.
-#[cycle(binding_body_call_child_constant_form_function_helper_lambda_let_after_let_form_macro_form_many_mod_form_namespace_read_record_tail_times)]
+#[cycle(reading)]
 fn lambda(s: &[u8], x: Context, c: Scan) -> Scan
     requires at_in_bounds { c.at ≤ length s.now }
     requires s_bound { x.mark + length s.now < 2 ^ 63 }
@@ -346,7 +346,7 @@ fn lambda(s: &[u8], x: Context, c: Scan) -> Scan
 }
 
 // A BB.
-#[cycle(binding_body_call_child_constant_form_function_helper_lambda_let_after_let_form_macro_form_many_mod_form_namespace_read_record_tail_times)]
+#[cycle(reading)]
 fn binding(s: &[u8], x: Context, c: Scan) -> Scan
     requires at_value { (c.at ≡ 0) × (c.refusal.number ≡ 0) }
     requires s_bound { x.mark + length s.now < 2 ^ 63 }
@@ -362,7 +362,7 @@ fn binding(s: &[u8], x: Context, c: Scan) -> Scan
 }
 
 // An H record.
-#[cycle(binding_body_call_child_constant_form_function_helper_lambda_let_after_let_form_macro_form_many_mod_form_namespace_read_record_tail_times)]
+#[cycle(reading)]
 fn helper(s: &[u8], x: Context, c: Scan) -> Scan
     requires at_value { (c.at ≡ 0) × (c.refusal.number ≡ 0) }
     requires s_bound { x.mark + length s.now < 2 ^ 63 }
@@ -396,7 +396,7 @@ fn reference(s: &[u8], mark: usize, c: Scan) -> Scan
 }
 
 // What stands after the mark of an HC.
-#[cycle(binding_body_call_child_constant_form_function_helper_lambda_let_after_let_form_macro_form_many_mod_form_namespace_read_record_tail_times)]
+#[cycle(reading)]
 fn constant(s: &[u8], x: Context, c: Scan) -> Scan
     requires at_in_bounds { c.at ≤ length s.now }
     requires s_bound { x.mark + length s.now < 2 ^ 63 }
@@ -407,7 +407,7 @@ fn constant(s: &[u8], x: Context, c: Scan) -> Scan
 }
 
 // What stands after the mark of an HM.
-#[cycle(binding_body_call_child_constant_form_function_helper_lambda_let_after_let_form_macro_form_many_mod_form_namespace_read_record_tail_times)]
+#[cycle(reading)]
 fn macro_form(s: &[u8], x: Context, c: Scan) -> Scan
     requires at_in_bounds { c.at ≤ length s.now }
     requires s_bound { x.mark + length s.now < 2 ^ 63 }
@@ -419,7 +419,7 @@ fn macro_form(s: &[u8], x: Context, c: Scan) -> Scan
 }
 
 // What stands after the mark of an HD.
-#[cycle(binding_body_call_child_constant_form_function_helper_lambda_let_after_let_form_macro_form_many_mod_form_namespace_read_record_tail_times)]
+#[cycle(reading)]
 fn function(s: &[u8], x: Context, c: Scan) -> Scan
     requires at_in_bounds { c.at ≤ length s.now }
     requires s_bound { x.mark + length s.now < 2 ^ 63 }
@@ -432,7 +432,7 @@ fn function(s: &[u8], x: Context, c: Scan) -> Scan
 }
 
 // What stands after the mark of an HN.
-#[cycle(binding_body_call_child_constant_form_function_helper_lambda_let_after_let_form_macro_form_many_mod_form_namespace_read_record_tail_times)]
+#[cycle(reading)]
 fn namespace(s: &[u8], x: Context, c: Scan) -> Scan
     requires at_in_bounds { c.at ≤ length s.now }
     requires s_bound { x.mark + length s.now < 2 ^ 63 }
@@ -443,7 +443,7 @@ fn namespace(s: &[u8], x: Context, c: Scan) -> Scan
 }
 
 // A CF.
-#[cycle(binding_body_call_child_constant_form_function_helper_lambda_let_after_let_form_macro_form_many_mod_form_namespace_read_record_tail_times)]
+#[cycle(reading)]
 fn form(s: &[u8], x: Context, c: Scan) -> Scan
     requires at_value { (c.at ≡ 0) × (c.refusal.number ≡ 0) }
     requires s_bound { x.mark + length s.now < 2 ^ 63 }

@@ -31,7 +31,7 @@ pub fn sexp_mark(s: &[u8]) -> u8
 }
 
 // The S record at the start of s, at most `depth` SC deep.
-#[cycle(child_sexp_pair_sexp)]
+#[cycle(sexps)]
 pub fn sexp(s: &[u8], mark: usize, depth: usize, c: Scan) -> Scan
     requires at_value { (c.at ≡ 0) × (c.refusal.number ≡ 0) }
     requires s_bound { mark + length s.now < 2 ^ 64 }
@@ -55,7 +55,7 @@ pub fn sexp(s: &[u8], mark: usize, depth: usize, c: Scan) -> Scan
 }
 
 // What stands after the mark of an SC.
-#[cycle(child_sexp_pair_sexp)]
+#[cycle(sexps)]
 fn pair(s: &[u8], mark: usize, depth: usize, c: Scan) -> Scan
     requires at_in_bounds { c.at ≤ length s.now }
     requires s_bound { mark + length s.now < 2 ^ 64 }
@@ -67,7 +67,7 @@ fn pair(s: &[u8], mark: usize, depth: usize, c: Scan) -> Scan
 }
 
 // A child S record.
-#[cycle(child_sexp_pair_sexp)]
+#[cycle(sexps)]
 pub fn child_sexp(s: &[u8], mark: usize, depth: usize, c: Scan) -> Scan
     requires at_in_bounds { c.at ≤ length s.now }
     requires s_bound { mark + length s.now < 2 ^ 64 }

@@ -12,7 +12,7 @@ use crate::sexp::sexp_mark;
 use crate::{Family, LOC_WIDTH, MARK_WIDTH};
 
 // The length of the record that s starts with.
-#[cycle(after_binding_body_form_helper_many_past_record_skip_tail)]
+#[cycle(skipping)]
 pub fn skip(family: Family, s: &[u8]) -> usize
     ensures { Skips (family_part family) s.now result }
 {
@@ -28,7 +28,7 @@ pub fn skip(family: Family, s: &[u8]) -> usize
 }
 
 // A B record, by the number of its mark.
-#[cycle(after_binding_body_form_helper_many_past_record_skip_tail)]
+#[cycle(skipping)]
 fn body(s: &[u8]) -> usize
     requires { mark_width ≤ length s.now }
     ensures { Skips (family_part Family.Body) s.now result }
@@ -55,7 +55,7 @@ fn body(s: &[u8]) -> usize
 }
 
 // A BB.
-#[cycle(after_binding_body_form_helper_many_past_record_skip_tail)]
+#[cycle(skipping)]
 fn binding(s: &[u8]) -> usize
     requires { mark_width ≤ length s.now }
     ensures { Skips (family_part Family.Binding) s.now result }
@@ -65,7 +65,7 @@ fn binding(s: &[u8]) -> usize
 }
 
 // An H record, by the number of its mark.
-#[cycle(after_binding_body_form_helper_many_past_record_skip_tail)]
+#[cycle(skipping)]
 fn helper(s: &[u8]) -> usize
     requires { mark_width ≤ length s.now }
     ensures { Skips (family_part Family.Helper) s.now result }
@@ -86,7 +86,7 @@ fn helper(s: &[u8]) -> usize
 }
 
 // A CF.
-#[cycle(after_binding_body_form_helper_many_past_record_skip_tail)]
+#[cycle(skipping)]
 fn form(s: &[u8]) -> usize
     requires { mark_width ≤ length s.now }
     ensures { Skips (family_part Family.Form) s.now result }
@@ -97,7 +97,7 @@ fn form(s: &[u8]) -> usize
 }
 
 // Where a count at a place and that many records end.
-#[cycle(after_binding_body_form_helper_many_past_record_skip_tail)]
+#[cycle(skipping)]
 fn many(family: Family, s: &[u8], at: usize) -> usize
     requires { at ≤ length s.now }
     ensures { Past (many_part (family_part family)) s.now at result }
@@ -107,7 +107,7 @@ fn many(family: Family, s: &[u8], at: usize) -> usize
 }
 
 // Where the tail of a call at a place ends.
-#[cycle(after_binding_body_form_helper_many_past_record_skip_tail)]
+#[cycle(skipping)]
 fn tail(s: &[u8], at: usize) -> usize
     requires { at ≤ length s.now }
     ensures { Past tail_part s.now at result }
@@ -156,7 +156,7 @@ pub fn skip_sexp(s: &[u8]) -> usize
 }
 
 // Where the record at a place ends.
-#[cycle(after_binding_body_form_helper_many_past_record_skip_tail)]
+#[cycle(skipping)]
 pub fn past_record(family: Family, s: &[u8], at: usize) -> usize
     requires { at ≤ length s.now }
     ensures { Past (family_part family) s.now at result }
@@ -173,7 +173,7 @@ pub fn past_sexp(s: &[u8], at: usize) -> usize
 }
 
 // Where n records, one after the other from a place on, end.
-#[cycle(after_binding_body_form_helper_many_past_record_skip_tail)]
+#[cycle(skipping)]
 pub fn after(family: Family, s: &[u8], at: usize, n: u8) -> usize
     requires { at ≤ length s.now }
     ensures { Past (list_part (family_part family) n) s.now at result }

@@ -1,5 +1,7 @@
 // The calls of the rename pass from the command line: the first argument says which. Results go to
 // standard output, all else to standard error.
+#![tactic(auto)]
+
 mod arguments;
 mod renaming;
 mod task;
@@ -11,7 +13,7 @@ use renaming::Call;
 use task::Asked;
 
 // What the first argument asks for.
-#[derive(Drop)]
+#[derive(Clone, Copy)]
 enum Command {
     Name,
     Check,

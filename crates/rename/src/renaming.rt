@@ -6,7 +6,7 @@ use records::MOST_LONGEST;
 use walk::call::{children_only, single_helper, whole_form};
 
 // Which of the three.
-#[derive(Drop)]
+#[derive(Clone, Copy)]
 pub enum Call {
     Whole,
     Children,

@@ -7,7 +7,7 @@ use commands::page::page;
 use libc::STDERR_FILENO;
 
 // An order, a page, or a renaming.
-#[derive(Drop)]
+#[derive(Clone, Copy)]
 pub enum Asked {
     Order,
     Page,

@@ -13,7 +13,7 @@ use walk::call::{children_only, single_helper, whole_form};
 pub const CALLS: u8 = 3;
 
 // What a case gives beside its input, and the refusal and the counter that it must get.
-#[derive(Drop)]
+#[derive(Clone, Copy)]
 pub struct Case {
     pub call: u8,
     pub f: usize,

@@ -4,6 +4,8 @@
 // A case is the call (0, 1 or 2), the number, F, the length of work memory, the counter, the
 // counter after the call, the place, and the lengths of the result buffer, the input and the result
 // (1, 1, 4, 4, 8, 8, 8, 2, 2 and 2 bytes, big-endian); then the input, and then the result.
+#![tactic(auto)]
+
 mod calls;
 
 ghost use Rattle.std.specs.Prelude.{◌≡◌, ◌≤◌, length};

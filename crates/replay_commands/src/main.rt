@@ -1,5 +1,7 @@
 // Runs the commands that need no renaming on stored files. What is refused is written to standard
 // output too, so that it is compared.
+#![tactic(auto)]
+
 use commands::WORK;
 use commands::check::check;
 use commands::name::make;

@@ -4,6 +4,8 @@
 // A case is F, the counter, the length of the result buffer, the number, the place, the rounds, how
 // many bytes are written and the length of the input (2, 8, 1, 1, 4, 1, 1 and 2 bytes, big-endian);
 // then the bytes written, and then the input.
+#![tactic(auto)]
+
 mod order;
 
 ghost use Rattle.std.specs.Prelude.{◌≡◌, length};

@@ -4,6 +4,8 @@
 // A case is F, the lengths of work memory and of the result buffer, the number, the place, how many
 // bytes are written and the length of the input (2, 4, 4, 1, 4, 4 and 2 bytes, big-endian); then the
 // bytes written, and then the input.
+#![tactic(auto)]
+
 mod page;
 
 ghost use Rattle.std.specs.Prelude.{◌≡◌, length};

@@ -9,7 +9,7 @@ use outline::page::page_call;
 use replays::{fill, same_refusal, untouched};
 
 // What a case gives the call beside its input, and the refusal that it must get.
-#[derive(Drop)]
+#[derive(Clone, Copy)]
 pub struct Case {
     pub f: usize,
     pub refusal: Refusal,

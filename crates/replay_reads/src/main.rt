@@ -2,6 +2,8 @@
 //
 // A case is its kind, number, F, place and the length of its input (1, 1, 2, 2 and 2 bytes,
 // big-endian), and then the input.
+#![tactic(auto)]
+
 mod reader;
 
 ghost use Rattle.std.specs.Prelude.{◌≡◌};

@@ -7,6 +7,8 @@
 // gives, and the lengths of the map, the result and the input (2, 2, 8, 1, 1, 8, 1, 2, 2 and 2 bytes,
 // big-endian); then the map, the result and the input. The rule is 0 for Substitute, 1 with `qq`
 // looked into, 2 inside `qq`, 3 for an S record alone in a body. After a 6 nothing is substituted.
+#![tactic(auto)]
+
 mod sexps;
 
 ghost use Rattle.std.specs.Prelude.{◌≤◌, length};

@@ -31,7 +31,7 @@ pub const FACTOR: usize = 4;
 const VALUE: u8 = 2;
 
 // What a case gives beside its input, and the numbers and the counter that it must get.
-#[derive(Drop)]
+#[derive(Clone, Copy)]
 pub struct Case {
     pub f: usize,
     pub room: usize,
@@ -44,7 +44,7 @@ pub struct Case {
 
 // Where the S record starts that names are drawn from, where the body starts, one byte behind its
 // end, and where the S record starts that is substituted.
-#[derive(Drop)]
+#[derive(Clone, Copy)]
 struct Places {
     pattern: usize,
     body: usize,

@@ -1,5 +1,7 @@
 // What the programs that replay stored cases share: what came of a case and what is said of it,
 // memory that is filled before a call, and refusals compared.
+#![tactic(auto)]
+
 ghost use Rattle.std.specs.Prelude.{◌≡◌, length};
 ghost use Rattle.replays.specs.Judging.{Decides, filling, judged_as, goes_further};
 
@@ -10,7 +12,7 @@ use names::Refusal;
 const FILL: u8 = 7;
 
 // What came of one case.
-#[derive(Drop)]
+#[derive(Clone, Copy)]
 pub enum Verdict {
     Agrees,
     Differs,

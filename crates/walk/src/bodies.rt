@@ -32,7 +32,7 @@ use records::{CONS_LIMIT, LOC_WIDTH, MARK_WIDTH, Step};
 const BINDINGS_ROOM: usize = 3;
 
 // Own of the B record at the start of mem.
-#[cycle(args_bodyform_assign_assign_all_assign_one_bind_binds_both_bound_call_chain_complex_each_either_in_bodyform_in_lambda_in_let_lambda_lets_moved_named_nested_over_parallel_redo_rest_sorted_tail)]
+#[cycle(bodies)]
 pub fn args_bodyform(mem: &mut [u8], t: Task) -> Step
     requires { BodyReady AnyBody true mem.old t }
     ensures { Walks AnyBody true mem.old mem.new t result }
@@ -47,7 +47,7 @@ pub fn args_bodyform(mem: &mut [u8], t: Task) -> Step
 }
 
 // In-body of the B record at the start of mem.
-#[cycle(args_bodyform_assign_assign_all_assign_one_bind_binds_both_bound_call_chain_complex_each_either_in_bodyform_in_lambda_in_let_lambda_lets_moved_named_nested_over_parallel_redo_rest_sorted_tail)]
+#[cycle(bodies)]
 pub fn in_bodyform(mem: &mut [u8], t: Task) -> Step
     requires { BodyReady AnyBody false mem.old t }
     ensures { Walks AnyBody false mem.old mem.new t result }
@@ -64,7 +64,7 @@ pub fn in_bodyform(mem: &mut [u8], t: Task) -> Step
 }
 
 // One of the two.
-#[cycle(args_bodyform_assign_assign_all_assign_one_bind_binds_both_bound_call_chain_complex_each_either_in_bodyform_in_lambda_in_let_lambda_lets_moved_named_nested_over_parallel_redo_rest_sorted_tail)]
+#[cycle(bodies)]
 pub fn either(mem: &mut [u8], t: Task, owning: bool) -> Step
     requires { BodyReady AnyBody owning mem.old t }
     ensures { Walks AnyBody owning mem.old mem.new t result }
@@ -77,7 +77,7 @@ pub fn either(mem: &mut [u8], t: Task, owning: bool) -> Step
 
 // Own of the body at the start of mem, in memory that ends where the map starts, and then In-body of
 // that by the map; beside results of `sum` bytes.
-#[cycle(args_bodyform_assign_assign_all_assign_one_bind_binds_both_bound_call_chain_complex_each_either_in_bodyform_in_lambda_in_let_lambda_lets_moved_named_nested_over_parallel_redo_rest_sorted_tail)]
+#[cycle(bodies)]
 pub fn both(mem: &mut [u8], sum: usize, t: Task) -> Piece
     requires { BothReady mem.old sum t }
     ensures { WalksBoth mem.old mem.new sum t result }
@@ -116,7 +116,7 @@ pub fn both(mem: &mut [u8], sum: usize, t: Task) -> Piece
 }
 
 // In-body of the result of w bytes at free, which takes its place; `read` is what was read to make it.
-#[cycle(args_bodyform_assign_assign_all_assign_one_bind_binds_both_bound_call_chain_complex_each_either_in_bodyform_in_lambda_in_let_lambda_lets_moved_named_nested_over_parallel_redo_rest_sorted_tail)]
+#[cycle(bodies)]
 fn over(mem: &mut [u8], read: usize, w: usize, sum: usize, t: Task) -> Piece
     requires { OverReady mem.old w sum t }
     ensures { GoesOver mem.old mem.new read w sum t result }
@@ -145,7 +145,7 @@ fn over(mem: &mut [u8], read: usize, w: usize, sum: usize, t: Task) -> Piece
 }
 
 // A BC: each element, then the tail.
-#[cycle(args_bodyform_assign_assign_all_assign_one_bind_binds_both_bound_call_chain_complex_each_either_in_bodyform_in_lambda_in_let_lambda_lets_moved_named_nested_over_parallel_redo_rest_sorted_tail)]
+#[cycle(bodies)]
 fn call(mem: &mut [u8], t: Task, owning: bool) -> Step
     requires { BodyReady IsCall owning mem.old t }
     ensures { Walks IsCall owning mem.old mem.new t result }
@@ -191,7 +191,7 @@ fn call(mem: &mut [u8], t: Task, owning: bool) -> Step
 
 // So many bodies, one after the other from the start of mem. Element 0 of a call stays as it was
 // under In-body. What is written is the sum.
-#[cycle(args_bodyform_assign_assign_all_assign_one_bind_binds_both_bound_call_chain_complex_each_either_in_bodyform_in_lambda_in_let_lambda_lets_moved_named_nested_over_parallel_redo_rest_sorted_tail)]
+#[cycle(bodies)]
 fn each(mem: &mut [u8], count: u8, t: Task, owning: bool) -> Piece
     requires { ElementsReady owning mem.old count t }
     ensures { WalksElements owning mem.old mem.new count t result }
@@ -231,7 +231,7 @@ fn each(mem: &mut [u8], count: u8, t: Task, owning: bool) -> Piece
 }
 
 // The tail of a call at the start of mem, beside results of `sum` bytes.
-#[cycle(args_bodyform_assign_assign_all_assign_one_bind_binds_both_bound_call_chain_complex_each_either_in_bodyform_in_lambda_in_let_lambda_lets_moved_named_nested_over_parallel_redo_rest_sorted_tail)]
+#[cycle(bodies)]
 fn tail(mem: &mut [u8], sum: usize, t: Task, owning: bool) -> Piece
     requires { TailReady owning mem.old sum t }
     ensures { WalksTail owning mem.old mem.new sum t result }
@@ -265,7 +265,7 @@ fn tail(mem: &mut [u8], sum: usize, t: Task, owning: bool) -> Piece
 }
 
 // Own of a BL, by its kind.
-#[cycle(args_bodyform_assign_assign_all_assign_one_bind_binds_both_bound_call_chain_complex_each_either_in_bodyform_in_lambda_in_let_lambda_lets_moved_named_nested_over_parallel_redo_rest_sorted_tail)]
+#[cycle(bodies)]
 fn lets(mem: &mut [u8], t: Task) -> Step
     requires { BodyReady IsBinder true mem.old t }
     ensures { Walks IsBinder true mem.old mem.new t result }
@@ -280,7 +280,7 @@ fn lets(mem: &mut [u8], t: Task) -> Step
 
 // Own of a parallel let. The new patterns stand below its map, and the memory of its binding bodies
 // ends before them.
-#[cycle(args_bodyform_assign_assign_all_assign_one_bind_binds_both_bound_call_chain_complex_each_either_in_bodyform_in_lambda_in_let_lambda_lets_moved_named_nested_over_parallel_redo_rest_sorted_tail)]
+#[cycle(bodies)]
 fn parallel(mem: &mut [u8], t: Task) -> Step
     requires { ParallelReady mem.old t }
     ensures { Walks (IsLet Parallel) true mem.old mem.new t result }
@@ -309,7 +309,7 @@ fn parallel(mem: &mut [u8], t: Task) -> Step
 }
 
 // Own of a parallel let whose bindings start at a place, and whose patterns and map are made.
-#[cycle(args_bodyform_assign_assign_all_assign_one_bind_binds_both_bound_call_chain_complex_each_either_in_bodyform_in_lambda_in_let_lambda_lets_moved_named_nested_over_parallel_redo_rest_sorted_tail)]
+#[cycle(bodies)]
 fn bound(mem: &mut [u8], first: usize, count: u8, aside: usize, sum: usize, t: Task) -> Step
     requires { PatternedReady mem.old first count aside sum t }
     ensures { WalksPatterned mem.old mem.new first count aside sum t result }
@@ -353,7 +353,7 @@ fn bound(mem: &mut [u8], first: usize, count: u8, aside: usize, sum: usize, t: T
 
 // So many bindings from the start of mem on, their results from free on, beside results of `held`
 // bytes: under Own with the patterns that stand from `aside` on, under In-body with their own.
-#[cycle(args_bodyform_assign_assign_all_assign_one_bind_binds_both_bound_call_chain_complex_each_either_in_bodyform_in_lambda_in_let_lambda_lets_moved_named_nested_over_parallel_redo_rest_sorted_tail)]
+#[cycle(bodies)]
 fn binds(mem: &mut [u8], count: u8, aside: usize, held: usize, t: Task, owning: bool) -> Piece
     requires { AllReady mem.old count aside held t owning }
     ensures { BindsAll mem.old mem.new count aside held t owning result }
@@ -401,7 +401,7 @@ fn binds(mem: &mut [u8], count: u8, aside: usize, held: usize, t: Task, owning: 
 }
 
 // The body of a binding at a place: under Own its memory ends at `aside`.
-#[cycle(args_bodyform_assign_assign_all_assign_one_bind_binds_both_bound_call_chain_complex_each_either_in_bodyform_in_lambda_in_let_lambda_lets_moved_named_nested_over_parallel_redo_rest_sorted_tail)]
+#[cycle(bodies)]
 fn bind(mem: &mut [u8], at: usize, aside: usize, t: Task, owning: bool) -> Step
     requires { BindReady mem.old at aside t owning }
     ensures { Binds mem.old mem.new at aside t owning result }
@@ -413,7 +413,7 @@ fn bind(mem: &mut [u8], at: usize, aside: usize, t: Task, owning: bool) -> Step
 }
 
 // In-body of a BL of any kind.
-#[cycle(args_bodyform_assign_assign_all_assign_one_bind_binds_both_bound_call_chain_complex_each_either_in_bodyform_in_lambda_in_let_lambda_lets_moved_named_nested_over_parallel_redo_rest_sorted_tail)]
+#[cycle(bodies)]
 fn in_let(mem: &mut [u8], t: Task) -> Step
     requires { BodyReady IsBinder false mem.old t }
     ensures { Walks IsBinder false mem.old mem.new t result }
@@ -463,7 +463,7 @@ fn in_let(mem: &mut [u8], t: Task) -> Step
 }
 
 // Own of a sequential let: of the nested lets that it becomes, which their result then replaces.
-#[cycle(args_bodyform_assign_assign_all_assign_one_bind_binds_both_bound_call_chain_complex_each_either_in_bodyform_in_lambda_in_let_lambda_lets_moved_named_nested_over_parallel_redo_rest_sorted_tail)]
+#[cycle(bodies)]
 fn chain(mem: &mut [u8], t: Task) -> Step
     requires { BodyReady (IsLet Sequential) true mem.old t }
     ensures { Walks (IsLet Sequential) true mem.old mem.new t result }
@@ -503,7 +503,7 @@ fn chain(mem: &mut [u8], t: Task) -> Step
 }
 
 // Own of what a sequential let of so many bindings became.
-#[cycle(args_bodyform_assign_assign_all_assign_one_bind_binds_both_bound_call_chain_complex_each_either_in_bodyform_in_lambda_in_let_lambda_lets_moved_named_nested_over_parallel_redo_rest_sorted_tail)]
+#[cycle(bodies)]
 fn nested(mem: &mut [u8], count: u8, t: Task) -> Step
     requires { NestedReady mem.old count t }
     ensures { WalksNested mem.old mem.new count t result }
@@ -524,7 +524,7 @@ fn nested(mem: &mut [u8], count: u8, t: Task) -> Step
 }
 
 // Own of an assign; 5 where its bindings have no order.
-#[cycle(args_bodyform_assign_assign_all_assign_one_bind_binds_both_bound_call_chain_complex_each_either_in_bodyform_in_lambda_in_let_lambda_lets_moved_named_nested_over_parallel_redo_rest_sorted_tail)]
+#[cycle(bodies)]
 fn assign(mem: &mut [u8], t: Task) -> Step
     requires { BodyReady (IsLet Assign) true mem.old t }
     ensures { Walks (IsLet Assign) true mem.old mem.new t result }
@@ -539,7 +539,7 @@ fn assign(mem: &mut [u8], t: Task) -> Step
 
 // Own of an assign whose order is known. Its bindings are made behind the room for the result, and
 // stand then before that place, the last one first.
-#[cycle(args_bodyform_assign_assign_all_assign_one_bind_binds_both_bound_call_chain_complex_each_either_in_bodyform_in_lambda_in_let_lambda_lets_moved_named_nested_over_parallel_redo_rest_sorted_tail)]
+#[cycle(bodies)]
 fn sorted(mem: &mut [u8], o: Order, t: Task) -> Step
     requires { OrderedReady mem.old o t }
     ensures { Walks (IsLet Assign) true mem.old mem.new t result }
@@ -584,7 +584,7 @@ fn sorted(mem: &mut [u8], o: Order, t: Task) -> Step
 
 // An assign whose w bytes of bindings are made and stand behind the room for them: they are moved
 // behind its head, and its body follows.
-#[cycle(args_bodyform_assign_assign_all_assign_one_bind_binds_both_bound_call_chain_complex_each_either_in_bodyform_in_lambda_in_let_lambda_lets_moved_named_nested_over_parallel_redo_rest_sorted_tail)]
+#[cycle(bodies)]
 fn moved(mem: &mut [u8], first: usize, body: usize, w: usize, sum: usize, t: Task) -> Step
     requires { TurnedReady mem.old first body w sum t }
     ensures { Turns mem.old mem.new w sum t result }
@@ -611,7 +611,7 @@ fn moved(mem: &mut [u8], first: usize, body: usize, w: usize, sum: usize, t: Tas
 
 // The bindings of these indices, one after the other (`rename_assign_bindings`): each is made at free,
 // and moved before those that were made earlier.
-#[cycle(args_bodyform_assign_assign_all_assign_one_bind_binds_both_bound_call_chain_complex_each_either_in_bodyform_in_lambda_in_let_lambda_lets_moved_named_nested_over_parallel_redo_rest_sorted_tail)]
+#[cycle(bodies)]
 fn assign_all(mem: &mut [u8], row: &[u8], starts: &[usize], t: Task) -> Made
     requires { BindingsReady mem.old row.now starts.now t }
     ensures { MakesBindings mem.old mem.new row.now starts.now t result }
@@ -654,7 +654,7 @@ fn assign_all(mem: &mut [u8], row: &[u8], starts: &[usize], t: Task) -> Made
 }
 
 // The binding of n bytes at the start of mem: a Name binding is copied.
-#[cycle(args_bodyform_assign_assign_all_assign_one_bind_binds_both_bound_call_chain_complex_each_either_in_bodyform_in_lambda_in_let_lambda_lets_moved_named_nested_over_parallel_redo_rest_sorted_tail)]
+#[cycle(bodies)]
 fn assign_one(mem: &mut [u8], n: usize, sum: usize, t: Task) -> Made
     requires { BindingReady mem.old n sum t }
     ensures { MakesBinding mem.old mem.new sum t result }
@@ -673,7 +673,7 @@ fn assign_one(mem: &mut [u8], n: usize, sum: usize, t: Task) -> Made
 
 // A Complex pattern and the body behind it: the map grows by the pattern, and Own of the body stands at
 // free until the pattern and In-body of it stand behind it.
-#[cycle(args_bodyform_assign_assign_all_assign_one_bind_binds_both_bound_call_chain_complex_each_either_in_bodyform_in_lambda_in_let_lambda_lets_moved_named_nested_over_parallel_redo_rest_sorted_tail)]
+#[cycle(bodies)]
 fn complex(mem: &mut [u8], sum: usize, t: Task) -> Made
     requires { ComplexReady mem.old sum t }
     ensures { MakesComplex mem.old mem.new sum t result }
@@ -696,7 +696,7 @@ fn complex(mem: &mut [u8], sum: usize, t: Task) -> Made
 }
 
 // The body at a place, behind a Complex pattern whose names are drawn.
-#[cycle(args_bodyform_assign_assign_all_assign_one_bind_binds_both_bound_call_chain_complex_each_either_in_bodyform_in_lambda_in_let_lambda_lets_moved_named_nested_over_parallel_redo_rest_sorted_tail)]
+#[cycle(bodies)]
 fn named(mem: &mut [u8], body: usize, sum: usize, t: Task) -> Made
     requires { NamedReady mem.old body sum t }
     ensures { MakesNamed mem.old mem.new sum t result }
@@ -734,7 +734,7 @@ fn named(mem: &mut [u8], body: usize, sum: usize, t: Task) -> Made
 }
 
 // The pattern at the start of mem by the map, and In-body of the w bytes at free, which both replace.
-#[cycle(args_bodyform_assign_assign_all_assign_one_bind_binds_both_bound_call_chain_complex_each_either_in_bodyform_in_lambda_in_let_lambda_lets_moved_named_nested_over_parallel_redo_rest_sorted_tail)]
+#[cycle(bodies)]
 fn redo(mem: &mut [u8], w: usize, sum: usize, t: Task) -> Made
     requires { RemakeReady mem.old w sum t }
     ensures { Remakes mem.old mem.new w sum t result }
@@ -776,7 +776,7 @@ fn redo(mem: &mut [u8], w: usize, sum: usize, t: Task) -> Made
 }
 
 // Own of a BF: new names for its args, and both rules for its body.
-#[cycle(args_bodyform_assign_assign_all_assign_one_bind_binds_both_bound_call_chain_complex_each_either_in_bodyform_in_lambda_in_let_lambda_lets_moved_named_nested_over_parallel_redo_rest_sorted_tail)]
+#[cycle(bodies)]
 fn lambda(mem: &mut [u8], t: Task) -> Step
     requires { BodyReady IsLambda true mem.old t }
     ensures { Walks IsLambda true mem.old mem.new t result }
@@ -808,7 +808,7 @@ fn lambda(mem: &mut [u8], t: Task) -> Step
 }
 
 // In-body of a BF: the captures first, behind the room for the capture args.
-#[cycle(args_bodyform_assign_assign_all_assign_one_bind_binds_both_bound_call_chain_complex_each_either_in_bodyform_in_lambda_in_let_lambda_lets_moved_named_nested_over_parallel_redo_rest_sorted_tail)]
+#[cycle(bodies)]
 fn in_lambda(mem: &mut [u8], t: Task) -> Step
     requires { BodyReady IsLambda false mem.old t }
     ensures { Walks IsLambda false mem.old mem.new t result }
@@ -850,7 +850,7 @@ fn in_lambda(mem: &mut [u8], t: Task) -> Step
 
 // A BF whose captures are made, x bytes: the capture args from `at` on go before them, then the args
 // as they are, and the body by both rules.
-#[cycle(args_bodyform_assign_assign_all_assign_one_bind_binds_both_bound_call_chain_complex_each_either_in_bodyform_in_lambda_in_let_lambda_lets_moved_named_nested_over_parallel_redo_rest_sorted_tail)]
+#[cycle(bodies)]
 fn rest(mem: &mut [u8], at: usize, args: usize, body: usize, x: usize, t: Task) -> Step
     requires { CapturedReady mem.old at args body x t }
     ensures { WalksCaptured mem.old mem.new at args body x t result }

@@ -20,7 +20,7 @@ use records::skip::skip;
 use records::{Family, Step};
 
 // `rename_args_helperform` of the H record at the start of mem.
-#[cycle(after_args_compileform_args_helperform_both_by_rule_child_helpers_in_compileform_in_helperform_listed_parts_renewed_rest)]
+#[cycle(forms)]
 pub fn args_helperform(mem: &mut [u8], t: Task) -> Step
     requires { TreeReady Helperform true mem.old t }
     ensures { WalksTree Helperform true mem.old mem.new t result }
@@ -48,7 +48,7 @@ pub fn args_helperform(mem: &mut [u8], t: Task) -> Step
 }
 
 // `rename_in_helperform` of the H record at the start of mem.
-#[cycle(after_args_compileform_args_helperform_both_by_rule_child_helpers_in_compileform_in_helperform_listed_parts_renewed_rest)]
+#[cycle(forms)]
 pub fn in_helperform(mem: &mut [u8], t: Task) -> Step
     requires { TreeReady Helperform false mem.old t }
     ensures { WalksTree Helperform false mem.old mem.new t result }
@@ -81,7 +81,7 @@ fn keep_helper(mem: &mut [u8], t: Task) -> Step
 }
 
 // `rename_args_compileform` of the CF at the start of mem.
-#[cycle(after_args_compileform_args_helperform_both_by_rule_child_helpers_in_compileform_in_helperform_listed_parts_renewed_rest)]
+#[cycle(forms)]
 pub fn args_compileform(mem: &mut [u8], t: Task) -> Step
     requires { TreeReady Compileform true mem.old t }
     ensures { WalksTree Compileform true mem.old mem.new t result }
@@ -91,7 +91,7 @@ pub fn args_compileform(mem: &mut [u8], t: Task) -> Step
 }
 
 // `rename_in_compileform` of the CF at the start of mem.
-#[cycle(after_args_compileform_args_helperform_both_by_rule_child_helpers_in_compileform_in_helperform_listed_parts_renewed_rest)]
+#[cycle(forms)]
 pub fn in_compileform(mem: &mut [u8], t: Task) -> Step
     requires { TreeReady Compileform false mem.old t }
     ensures { WalksTree Compileform false mem.old mem.new t result }
@@ -110,7 +110,7 @@ pub fn children_compileform(mem: &mut [u8], t: Task) -> Step
 }
 
 // A record that is kept up to a place, with the rest that stands there by the rules of a way.
-#[cycle(after_args_compileform_args_helperform_both_by_rule_child_helpers_in_compileform_in_helperform_listed_parts_renewed_rest)]
+#[cycle(forms)]
 fn after(mem: &mut [u8], at: usize, kind: Rest, way: Way, t: Task) -> Step
     requires { AfterReady kind way mem.old at t }
     ensures { WalksAfter kind way mem.old mem.new at t result }
@@ -137,7 +137,7 @@ fn after(mem: &mut [u8], at: usize, kind: Rest, way: Way, t: Task) -> Step
 
 // A record whose args stand at a place: new names for the args, and the rest behind them by the
 // args-rules and then by the in-rules with these names.
-#[cycle(after_args_compileform_args_helperform_both_by_rule_child_helpers_in_compileform_in_helperform_listed_parts_renewed_rest)]
+#[cycle(forms)]
 fn renewed(mem: &mut [u8], args: usize, kind: Rest, t: Task) -> Step
     requires { RenewedReady kind mem.old args t }
     ensures { WalksRenewed kind mem.old mem.new args t result }
@@ -169,7 +169,7 @@ fn renewed(mem: &mut [u8], args: usize, kind: Rest, t: Task) -> Step
 
 // The rest at the start of mem by the args-rules, in memory that ends where the map starts, and then
 // that by the in-rules, which takes its place; beside results of `sum` bytes.
-#[cycle(after_args_compileform_args_helperform_both_by_rule_child_helpers_in_compileform_in_helperform_listed_parts_renewed_rest)]
+#[cycle(forms)]
 fn both(mem: &mut [u8], kind: Rest, sum: usize, t: Task) -> Piece
     requires { BothRestReady kind mem.old sum t }
     ensures { WalksBothRest kind mem.old mem.new sum t result }
@@ -213,7 +213,7 @@ fn both(mem: &mut [u8], kind: Rest, sum: usize, t: Task) -> Piece
 }
 
 // The rest at the start of mem, beside results of `sum` bytes.
-#[cycle(after_args_compileform_args_helperform_both_by_rule_child_helpers_in_compileform_in_helperform_listed_parts_renewed_rest)]
+#[cycle(forms)]
 fn rest(mem: &mut [u8], kind: Rest, way: Way, sum: usize, t: Task) -> Piece
     requires { RestReady kind way mem.old sum t }
     ensures { WalksRest kind way mem.old mem.new sum t result }
@@ -227,7 +227,7 @@ fn rest(mem: &mut [u8], kind: Rest, way: Way, sum: usize, t: Task) -> Piece
 }
 
 // A count and so many helpers, and the body behind them.
-#[cycle(after_args_compileform_args_helperform_both_by_rule_child_helpers_in_compileform_in_helperform_listed_parts_renewed_rest)]
+#[cycle(forms)]
 fn parts(mem: &mut [u8], way: Way, sum: usize, t: Task) -> Piece
     requires { RestReady Parts way mem.old sum t }
     ensures { WalksRest Parts way mem.old mem.new sum t result }
@@ -254,7 +254,7 @@ fn parts(mem: &mut [u8], way: Way, sum: usize, t: Task) -> Piece
 }
 
 // A count, which is kept, and so many helpers.
-#[cycle(after_args_compileform_args_helperform_both_by_rule_child_helpers_in_compileform_in_helperform_listed_parts_renewed_rest)]
+#[cycle(forms)]
 fn listed(mem: &mut [u8], way: Way, sum: usize, t: Task) -> Piece
     requires { RestReady Listed way mem.old sum t }
     ensures { WalksRest Listed way mem.old mem.new sum t result }
@@ -269,7 +269,7 @@ fn listed(mem: &mut [u8], way: Way, sum: usize, t: Task) -> Piece
 }
 
 // So many helpers, one after the other from the start of mem.
-#[cycle(after_args_compileform_args_helperform_both_by_rule_child_helpers_in_compileform_in_helperform_listed_parts_renewed_rest)]
+#[cycle(forms)]
 fn helpers(mem: &mut [u8], count: u8, way: Way, sum: usize, t: Task) -> Piece
     requires { HelpersReady way mem.old count sum t }
     ensures { WalksHelpers way mem.old mem.new count sum t result }
@@ -309,7 +309,7 @@ fn helpers(mem: &mut [u8], count: u8, way: Way, sum: usize, t: Task) -> Piece
 }
 
 // The record at the start of mem as a child, whose result comes into the sum.
-#[cycle(after_args_compileform_args_helperform_both_by_rule_child_helpers_in_compileform_in_helperform_listed_parts_renewed_rest)]
+#[cycle(forms)]
 fn child(mem: &mut [u8], kind: Child, way: Way, sum: usize, t: Task) -> Piece
     requires { ChildReady kind way mem.old sum t }
     ensures { WalksChild kind way mem.old mem.new sum t result }
@@ -321,7 +321,7 @@ fn child(mem: &mut [u8], kind: Child, way: Way, sum: usize, t: Task) -> Piece
 }
 
 // The record at the start of mem by the args-rule or the in-rule of its kind.
-#[cycle(after_args_compileform_args_helperform_both_by_rule_child_helpers_in_compileform_in_helperform_listed_parts_renewed_rest)]
+#[cycle(forms)]
 fn by_rule(mem: &mut [u8], kind: Child, owning: bool, t: Task) -> Step
     requires { TreeReady kind owning mem.old t }
     ensures { WalksTree kind owning mem.old mem.new t result }

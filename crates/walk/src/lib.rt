@@ -5,6 +5,8 @@
 // `scopes` has args and patterns by new names, `places` where parts of a record go. `leaves` takes the
 // B records that go no level down, `desugar` a sequential let, and `bodies` has Own and In-body of
 // every B record. `forms` has the rules on H records and CF, and `call` the three calls.
+#![tactic(auto)]
+
 use names::Refusal;
 
 pub mod bodies;
@@ -22,7 +24,7 @@ pub mod substitute;
 // What a step is given beside the record at the start of memory: where its result goes, how many
 // bytes the map at the end of memory has, how long the result may be, how deep the record may nest
 // (the SC of an S record, the levels of a B record), and the counter.
-#[derive(Drop)]
+#[derive(Clone, Copy)]
 pub struct Task {
     pub free: usize,
     pub map: usize,
@@ -33,7 +35,7 @@ pub struct Task {
 
 // How far names are drawn: how many bytes the map has, the counter, and where the next record
 // stands.
-#[derive(Drop)]
+#[derive(Clone, Copy)]
 pub struct Growth {
     pub len: usize,
     pub counter: u64,
@@ -41,7 +43,7 @@ pub struct Growth {
 }
 
 // What drawing names answers: how far they are drawn, or its refusal.
-#[derive(Drop)]
+#[derive(Clone, Copy)]
 pub enum Invented {
     Drawn(Growth),
     Refused(Refusal),
@@ -49,7 +51,7 @@ pub enum Invented {
 
 // What a piece of a rule answers: how many bytes it read and wrote, the sum of the results that the rule
 // then holds, and the counter; or a refusal.
-#[derive(Drop)]
+#[derive(Clone, Copy)]
 pub enum Piece {
     Done(usize, usize, usize, u64),
     Refused(Refusal),
@@ -57,7 +59,7 @@ pub enum Piece {
 
 // Args or patterns by names drawn for them: how many bytes were read and written, how many the map
 // has then, and the counter; or a refusal.
-#[derive(Drop)]
+#[derive(Clone, Copy)]
 pub enum Drawn {
     Done(usize, usize, usize, u64),
     Refused(Refusal),
@@ -65,7 +67,7 @@ pub enum Drawn {
 
 // A binding of an assign: how many bytes were written, the sum, the bytes of the map and the counter
 // then; or a refusal.
-#[derive(Drop)]
+#[derive(Clone, Copy)]
 pub enum Made {
     Done(usize, usize, usize, u64),
     Refused(Refusal),
@@ -73,7 +75,7 @@ pub enum Made {
 
 // Where a `qq` matters to the names of an S record: nowhere (`rename_in_cons` without qq); outside one
 // (`rename_in_cons` with qq); inside one (`rename_in_qq`).
-#[derive(Drop)]
+#[derive(Clone, Copy)]
 pub enum Quasi {
     Ignored,
     Outside,
@@ -81,7 +83,7 @@ pub enum Quasi {
 }
 
 // How an S record is substituted.
-#[derive(Drop)]
+#[derive(Clone, Copy)]
 pub enum Plan {
     // It is kept, and has so many bytes.
     Kept(usize),
@@ -96,7 +98,7 @@ pub enum Plan {
 }
 
 // A record that a rule hands on to another use of a rule.
-#[derive(Drop)]
+#[derive(Clone, Copy)]
 pub enum Child {
     Bodyform,
     Helperform,
@@ -105,7 +107,7 @@ pub enum Child {
 
 // What an H record or a CF ends with: a B record; a CF; a count and so many H records; or these and a
 // B record.
-#[derive(Drop)]
+#[derive(Clone, Copy)]
 pub enum Rest {
     OneBody,
     OneForm,
@@ -115,7 +117,7 @@ pub enum Rest {
 
 // By which rules, and beside which results: the args-rules; the in-rules; or the in-rules on results
 // of the args-rules, which leave the sum when their replacements are added.
-#[derive(Drop)]
+#[derive(Clone, Copy)]
 pub enum Way {
     Own,
     In,
@@ -123,7 +125,7 @@ pub enum Way {
 }
 
 // Which call is made: what it reads, and by which rule.
-#[derive(Drop)]
+#[derive(Clone, Copy)]
 pub enum Request {
     WholeForm,
     ChildrenOnly,

@@ -87,7 +87,7 @@ fn requote(mem: &mut [u8], task: Task, quasi: Quasi, at: usize, end: usize) -> S
 }
 
 // The element that starts at `at` alone, by the rule `next`, for a record that ends at `end`.
-#[cycle(alone_pair_rename)]
+#[cycle(cons)]
 fn alone(mem: &mut [u8], task: Task, quasi: Quasi, next: Quasi, at: usize, end: usize) -> Step
     requires asks { Asks sexp_bytes (Held task.depth) mem.old task }
     requires plans { Plans (substitution quasi) mem.old (Alone next at end) }
@@ -110,7 +110,7 @@ fn alone(mem: &mut [u8], task: Task, quasi: Quasi, next: Quasi, at: usize, end: 
 }
 
 // An SC whose parts go on.
-#[cycle(alone_pair_rename)]
+#[cycle(cons)]
 fn pair(mem: &mut [u8], task: Task, quasi: Quasi) -> Step
     requires asks { Asks sexp_bytes (Held task.depth) mem.old task }
     requires pair_at_start { PairAtStart (substitution quasi) mem.old }
@@ -158,7 +158,7 @@ fn pair(mem: &mut [u8], task: Task, quasi: Quasi) -> Step
 }
 
 // The names of the S record at the start of mem by the map.
-#[cycle(alone_pair_rename)]
+#[cycle(cons)]
 fn rename(mem: &mut [u8], task: Task, quasi: Quasi) -> Step
     requires { Asks sexp_bytes (Held task.depth) mem.old task }
     ensures { Substitutes (substitution quasi) mem.old mem.new task result }
