@@ -1,0 +1,49 @@
+-- The B, BB, H and CF records of `crate::skip`: every member of the cycle meets its contract. What falls is the length of the bytes that are left. Assumes nothing.
+use Prim.Native.Nat.{ℕ, ◌+◌, ◌*◌, ◌-◌, ◌≤◌, ◌<◌}
+use native.Mathlib.Omega.{arith}
+use borrow.Author.Rules.{rules}
+use mathlib.Core.Path.{refl, sym, ◌∙◌}
+use lib.ListN.{length}
+use Rattle.names.specs.Segments.{At}
+use Rattle.records.specs.Parts.{family_part, list_part}
+use Rattle.records.proofs.Parts.{skips_past, Left, left_step, left_none}
+use Rattle.records.proofs.MarkedLaws.{BodyOf, HelperOf, family_long, no_body, no_helper}
+use Rattle.records.proofs.SkipLaws.{skips_short, body_skips, helper_skips, many_past, no_tail_past, tail_past, let_ends, quote_ends, value_ends, call_ends, mod_ends, lambda_ends, binding_ends, constant_ends, macro_ends, function_ends, namespace_ends, reference_ends, form_ends}
+use borrow.Fn.Kinds.{In}
+use borrow.Fn.PlainCycle.{Measures, is, falls, and}
+use Rattle.records.proofs.skip.+skipping.Given as goal
+
+abbrev pub decreases-after : goal.decreases-after
+decreases-after l = 4 * (length l.s.now - l.at) + 5
+
+abbrev pub decreases-binding : goal.decreases-binding
+decreases-binding l = 4 * length l.s.now + 2
+
+abbrev pub decreases-body : goal.decreases-body
+decreases-body l = 4 * length l.s.now + 2
+
+abbrev pub decreases-form : goal.decreases-form
+decreases-form l = 4 * length l.s.now + 2
+
+abbrev pub decreases-helper : goal.decreases-helper
+decreases-helper l = 4 * length l.s.now + 2
+
+abbrev pub decreases-many : goal.decreases-many
+decreases-many l = 4 * (length l.s.now - l.at) + 6
+
+abbrev pub decreases-past_record : goal.decreases-past_record
+decreases-past_record l = 4 * (length l.s.now - l.at) + 4
+
+abbrev pub decreases-skip : goal.decreases-skip
+decreases-skip l = 4 * length l.s.now + 3
+
+abbrev pub decreases-tail : goal.decreases-tail
+decreases-tail l = 4 * (length l.s.now - l.at) + 5
+
+abbrev pub invariant-after-loop-i : goal.invariant-after-loop-i
+invariant-after-loop-i vars =
+    let l = list_part (family_part vars.family) vars.n in
+    (vars.i ≤ vars.n) × (vars.at ≤ vars.end) × (vars.end ≤ length vars.s) × ((ts : l.0) → l.2 ts → At vars.s vars.at (l.1 ts) → Left (family_part vars.family) vars.s vars.end vars.i vars.n (vars.at + length (l.1 ts)))
+
+abbrev pub decreases-after-loop-i : goal.decreases-after-loop-i
+decreases-after-loop-i l = l.n - l.i
