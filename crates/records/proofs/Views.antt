@@ -10,12 +10,12 @@ use Rattle.names.proofs.Fields.{number_field_length}
 use Rattle.names.proofs.Numbers.{number_at}
 use Rattle.names.specs.Segments.{At}
 use Rattle.records.specs.Depth.{depth}
-use Rattle.records.specs.Limits.{level_limit, cons_limit, lambda_limit}
+use Rattle.records.specs.Limits.{level_limit, lambda_limit}
 use Rattle.records.specs.Read.{kind_of}
-use Rattle.records.specs.Records.{head_width, mark_width, loc_width, integer_width, integer_field, byte, record_bytes, Kind, Parallel, Sequential, Assign, kind_field, Pattern, Name, Complex, pattern_field, Tail, no_tail, tail, tail_bytes, Sexp, sexp_bytes, body_bytes, binding_bytes, HN, helper_bytes, Helpers, helpers_bytes, form_bytes, bodies_count, bindings_count, helpers_count}
-use Rattle.records.specs.Valid.{ValidLoc, ValidName, ValidRaw, ValidSexp, ValidHelper, SexpFields, cons_depth, BodyFields, BindingFields, HelperFields, FormFields, lambda_depth}
+use Rattle.records.specs.Records.{head_width, mark_width, loc_width, integer_width, integer_field, byte, record_bytes, Kind, Parallel, Sequential, Assign, kind_field, Pattern, Name, Complex, pattern_field, Tail, no_tail, tail, tail_bytes, Sexp, sexp_bytes, body_bytes, HN, helper_bytes, Helpers, helpers_bytes, form_bytes, bodies_count, bindings_count, helpers_count}
+use Rattle.records.specs.Valid.{ValidLoc, ValidName, ValidRaw, ValidSexp, ValidHelper, BodyFields, HelperFields, FormFields, lambda_depth}
 use Rattle.records.specs.declared.Family.TheVariants.{Body as a_Body}
-use Rattle.records.specs.Parts.{Part, Past, fixed_part, name_part, raw_part, keyword_part, hint_part, pattern_part, sexp_part, family_part}
+use Rattle.records.specs.Parts.{Part, Past, fixed_part, name_part, raw_part, keyword_part, hint_part, sexp_part, family_part}
 use Rattle.records.specs.Views.{Stands, Closes, PastHead, SeesCall, SeesLet, SeesLambda, SeesQuote, SeesValue, SeesForm, PastNamed, PastArgs, SeesFunction, SeesConstant, SeesMacro, SeesNamespace, counted_field, SeesCounted, SeesName, SeesInteger, TaggedAt, PatternAt, TailAt, SeesTagged}
 use Rattle.records.specs.declared.NameView.{NameView}
 use Rattle.records.specs.declared.NamedView.{NamedView}

@@ -5,10 +5,10 @@ use mathlib.Core.List.{List, [], ◌∷◌, ◌++◌, flatten}
 use Rattle.names.specs.Names.{Bytes, ascii, number_of, number_field, name_width, name_field}
 use Rattle.names.specs.Segments.{At}
 use Rattle.records.specs.Read.{kind_of}
-use Rattle.records.specs.Records.{mark_width, head_width, integer_width, Loc, integer_field, Sexp, SN, SC, SI, SQ, SA, sexp_bytes, Kind, Pattern, Name, Complex, pattern_field, Body, BL, BQ, BV, BC, BM, BF, body_bytes, Bodies, bodies_bytes, bodies_count, Tail, no_tail, tail, tail_bytes, BB, binding_bytes, Bindings, bindings_bytes, bindings_count, HC, HM, HD, HN, HR, helper_bytes, Helpers, helpers_bytes, helpers_count, Form, CF, form_bytes}
+use Rattle.records.specs.Records.{mark_width, head_width, integer_width, Loc, integer_field, Sexp, SN, SC, SI, SQ, SA, sexp_bytes, Kind, Pattern, Name, Complex, pattern_field, Body, BL, BQ, BV, BC, BF, body_bytes, Bodies, bodies_bytes, bodies_count, Tail, no_tail, tail, tail_bytes, Bindings, bindings_bytes, bindings_count, HC, HM, HD, HN, helper_bytes, Helpers, helpers_bytes, helpers_count, Form, CF, form_bytes}
 use Rattle.records.specs.Scan.{mark_index, sexp_marks}
 use Rattle.records.specs.Valid.{ValidLoc, ValidName, ValidInteger, ValidRaw, SexpFields, ValidSexp, ValidBody, ValidHelper, ValidForm}
-use Rattle.records.specs.Parts.{Past, fixed_part, ValidBinding}
+use Rattle.records.specs.Parts.{Past, fixed_part}
 use Rattle.records.specs.declared.NameView.{NameView}
 use Rattle.records.specs.declared.TaggedView.{TaggedView}
 use Rattle.records.specs.declared.LetView.{LetView}

@@ -1,5 +1,4 @@
 -- `crate::bodies::lambda_view` meets its contract. Assumes nothing.
-use borrow.Author.Rules.{rules}
 use Rattle.records.proofs.Views.{sees_lambda}
 use Rattle.records.proofs.bodies.lambda_view.Goals as goal
 

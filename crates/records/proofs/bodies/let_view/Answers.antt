@@ -1,5 +1,4 @@
 -- `crate::bodies::let_view` meets its contract. Assumes nothing.
-use borrow.Author.Rules.{rules}
 use Rattle.records.proofs.Views.{sees_let}
 use Rattle.records.proofs.bodies.let_view.Goals as goal
 

@@ -1,5 +1,4 @@
 -- `crate::bodies::quote_view` meets its contract. Assumes nothing.
-use borrow.Author.Rules.{rules}
 use Rattle.records.proofs.Views.{sees_quote, sees_value}
 use Rattle.records.proofs.bodies.quote_view.Goals as goal
 

@@ -1,5 +1,4 @@
 -- `records::fields::at_most` meets its contract. Assumes nothing.
-use borrow.Author.Rules.{rules}
 use native.Mathlib.Omega.{arith}
 use Rattle.records.proofs.Exact.{exact_next}
 use Rattle.records.proofs.FieldLaws.{one_byte, byte_there, at_most_stop, at_most_over, at_most_fine}
@@ -18,10 +17,16 @@ bounds-s-at c =
 
 pub returns-then-s-at : goal.returns-then-s-at
 returns-then-s-at c =
-    let at-if2 = c.before.before in let at-if1 = at-if2.before.before in let at-bytes = at-if1.before.before in let at-start = at-bytes.before.before in record { reads = λ f q. rw (c.refused.ensures, ← q) (at_most_over _ f at-start.requires at-bytes.bytes-d.ensures
-          at-if1.if-d-ne0.false at-if2.if-s-at.true); at_in_bounds = rw c.refused.ensures (omega arith) }
+    let at-if2 = c.before.before in let at-if1 = at-if2.before.before in let at-bytes = at-if1.before.before in let at-start = at-bytes.before.before in record {
+      reads = λ f q. rw (c.refused.ensures, ← q) (at_most_over _ f at-start.requires at-bytes.bytes-d.ensures
+          at-if1.if-d-ne0.false at-if2.if-s-at.true);
+      at_in_bounds = rw c.refused.ensures (omega arith);
+    }
 
 pub returns : goal.returns
 returns c =
-    let at-if1 = c.before.before.before in let at-bytes = at-if1.before.before in let at-start = at-bytes.before.before in record { reads = λ f q. at_most_fine _ f at-start.requires at-bytes.bytes-d.ensures
-          at-if1.if-d-ne0.false c.if-s-at.false; at_in_bounds = at-bytes.bytes-d.ensures.within }
+    let at-if1 = c.before.before.before in let at-bytes = at-if1.before.before in let at-start = at-bytes.before.before in record {
+      reads = λ f q. at_most_fine _ f at-start.requires at-bytes.bytes-d.ensures
+          at-if1.if-d-ne0.false c.if-s-at.false;
+      at_in_bounds = at-bytes.bytes-d.ensures.within;
+    }

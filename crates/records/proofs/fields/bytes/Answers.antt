@@ -4,7 +4,7 @@ use Rattle.records.proofs.Scans.{reads_refused, reads_short, reads_enough}
 use Rattle.records.proofs.fields.bytes.Goals as goal
 
 pub returns-then-c-ne0 : goal.returns-then-c-ne0
-returns-then-c-ne0 c =  reads_refused c.requires c.if-c-ne0.true
+returns-then-c-ne0 c = reads_refused c.requires c.if-c-ne0.true
 
 pub returns-then-s-at : goal.returns-then-s-at
 returns-then-s-at c =

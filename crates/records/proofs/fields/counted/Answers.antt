@@ -1,5 +1,4 @@
 -- `records::fields::counted` meets its contract. Assumes nothing.
-use borrow.Author.Rules.{rules}
 use Rattle.records.proofs.FieldLaws.{reads_counted, reads_counted_stop, counted_there}
 use Rattle.records.proofs.fields.counted.Goals as goal
 

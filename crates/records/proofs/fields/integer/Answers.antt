@@ -1,6 +1,5 @@
 -- `records::fields::integer` meets its contract. Assumes nothing.
 use mathlib.Core.Path.{sym, ◌∙◌}
-use borrow.Author.Rules.{rules}
 use native.Mathlib.Omega.{arith}
 use Rattle.records.proofs.FieldLaws.{integer_stop, integer_part, integer_shortest, integer_longer}
 use Rattle.records.proofs.fields.integer.Goals as goal

@@ -1,6 +1,5 @@
 -- `records::fields::optional_loc` meets its contract. Assumes nothing.
 use mathlib.Core.Path.{refl}
-use borrow.Author.Rules.{rules}
 use Rattle.records.specs.ReadFields.{malformed, fault_number}
 use Rattle.records.proofs.Exact.{exact_up_to}
 use Rattle.records.proofs.FieldLaws.{byte_there, optional_stop, optional_absent, optional_present}

@@ -1,6 +1,5 @@
 -- `records::fields::raw` meets its contract. Assumes nothing.
 use mathlib.Core.List.{◌++◌}
-use borrow.Author.Rules.{rules}
 use Rattle.names.specs.Names.{Bytes, number_of}
 use Rattle.records.specs.Records.{raw_width}
 use Rattle.records.specs.ReadFields.{bytes, counted, raw_field}
@@ -9,4 +8,4 @@ use Rattle.records.proofs.fields.raw.Goals as goal
 
 pub returns : goal.returns
 unfolding counted raw_field
-returns c =  reads_made (bytes raw_width) (λ b. bytes (number_of b)) (λ (b bs : Bytes). b ++ bs) c.counted.ensures
+returns c = reads_made (bytes raw_width) (λ b. bytes (number_of b)) (λ (b bs : Bytes). b ++ bs) c.counted.ensures

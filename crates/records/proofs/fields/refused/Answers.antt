@@ -1,6 +1,5 @@
 -- `records::fields::refused` meets its contract. Assumes nothing.
-use borrow.Author.Rules.{rules}
 use Rattle.records.proofs.fields.refused.Goals as goal
 
 pub returns : goal.returns
-returns c =  rw (c.refusing.ensures, c.place_at.ensures)
+returns c = rw (c.refusing.ensures, c.place_at.ensures)

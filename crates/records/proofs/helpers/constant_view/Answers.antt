@@ -1,7 +1,6 @@
 -- `crate::helpers::constant_view` meets its contract. Assumes nothing.
-use borrow.Author.Rules.{rules}
 use Rattle.records.proofs.Views.{sees_constant}
 use Rattle.records.proofs.helpers.constant_view.Goals as goal
 
 pub returns : goal.returns
-returns c =  sees_constant c.past_head.ensures c.named.ensures
+returns c = sees_constant c.past_head.ensures c.named.ensures

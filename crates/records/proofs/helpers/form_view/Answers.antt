@@ -1,5 +1,4 @@
 -- `crate::helpers::form_view` meets its contract. Assumes nothing.
-use borrow.Author.Rules.{rules}
 use Rattle.records.proofs.Views.{sees_form}
 use Rattle.records.proofs.helpers.form_view.Goals as goal
 

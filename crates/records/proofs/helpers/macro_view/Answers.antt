@@ -1,7 +1,6 @@
 -- `crate::helpers::macro_view` meets its contract. Assumes nothing.
-use borrow.Author.Rules.{rules}
 use Rattle.records.proofs.Views.{sees_macro}
 use Rattle.records.proofs.helpers.macro_view.Goals as goal
 
 pub returns : goal.returns
-returns c =  sees_macro c.past_head.ensures c.with_args.ensures
+returns c = sees_macro c.past_head.ensures c.with_args.ensures

@@ -15,7 +15,7 @@ returns-then-input-f c =
     rw c.placeless-then-input-f.ensures (sym (open_long _ (wanted_reader c.args.wanted).1 _ _ _ _ (sym c.within.ensures ∙ c.if-not-within.false) c.if-input-f.true))
 
 pub read_from_first-r-requires : goal.read_from_first-r-requires
-read_from_first-r-requires c =  omega (arith, c.if-input-f.false, (within_limits _ _ _ (sym c.within.ensures ∙ c.if-not-within.false)).0)
+read_from_first-r-requires c = omega (arith, c.if-input-f.false, (within_limits _ _ _ (sym c.within.ensures ∙ c.if-not-within.false)).0)
 
 pub returns-then-refusal-ne0 : goal.returns-then-refusal-ne0
 returns-then-refusal-ne0 c =

@@ -1,5 +1,4 @@
 -- `crate::past::counted_view` meets its contract. Assumes nothing.
-use borrow.Author.Rules.{rules}
 use native.Mathlib.Omega.{arith}
 use Rattle.records.proofs.Views.{sees_none, sees_counted}
 use Rattle.records.proofs.FieldEnds.{counted_short, counted_past}

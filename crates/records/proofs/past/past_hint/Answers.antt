@@ -1,7 +1,6 @@
 -- `crate::past::past_hint` meets its contract. Assumes nothing.
-use borrow.Author.Rules.{rules}
 use Rattle.records.proofs.FieldEnds.{hint_past}
 use Rattle.records.proofs.past.past_hint.Goals as goal
 
 pub returns : goal.returns
-returns c =  hint_past c.past_optional.ensures
+returns c = hint_past c.past_optional.ensures

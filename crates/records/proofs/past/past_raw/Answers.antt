@@ -1,6 +1,5 @@
 -- `crate::past::past_raw` meets its contract. Assumes nothing.
-use borrow.Author.Rules.{rules}
 use Rattle.records.proofs.past.past_raw.Goals as goal
 
 pub returns : goal.returns
-returns c =  c.counted_view-v.ensures.past
+returns c = c.counted_view-v.ensures.past

@@ -1,23 +1,8 @@
 -- The reader of B, BB, H and CF records meets its contracts: what falls is in Base, and what each function needs in a file of its own. What stays is that
-use borrow.Author.Rules.{rules}
-use Prim.Native.Nat.{ℕ, ◌+◌, ◌*◌, ◌<◌, ◌^◌, ◌≤◌, ◌-◌}
-use Rattle.records.specs.declared.Context.{Context}
-use Rattle.records.proofs.Goes.{weight, goes_refused, goes_child, goes_reads, many_stop, many_there, loop_first, loop_next, loop_last}
-use borrow.Fn.Kinds.{In}
-use borrow.Fn.PlainCycle.{Measures, is, falls, and}
-use borrow.Author.Tests.{not-true, not-false}
-use mathlib.Core.Path.{sym, ◌∙◌, refl, ap}
-use Rattle.names.specs.Names.{ascii, same}
-use Rattle.records.proofs.BodyLaws.{binding_kind, binding_unknown, body_kind, body_quoted, body_unknown, body_deep, last_body, form_kind, form_deep, form_unknown, helper_kind, helper_unknown, helper_deep, last_helper}
-use Rattle.records.proofs.KindLaws.{goes_binding, goes_form, goes_call, goes_mod, goes_constant, goes_macro, goes_function, goes_namespace, goes_lambda, goes_no_lambda, count_stop, let_deep, let_bindings, let_stop, let_there, tail_stop, tail_none, tail_there}
-use native.Mathlib.Omega.{arith}
+use Prim.Native.Nat.{◌+◌, ◌*◌, ◌≤◌, ◌-◌}
+use Rattle.records.proofs.Goes.{weight}
 use lib.ListN.{length}
-use Rattle.records.specs.Records.{BQ, BV}
-use Rattle.records.specs.Read.{let_after as let-reader, call_after, mod_after, constant_after, macro_after, function_after, namespace_after, reference_after}
-use Rattle.records.specs.ReadFields.{choose, malformed, fault_number}
-use Rattle.records.specs.Scan.{lambda_within, times_of as times-reader, Goes}
-use Rattle.records.proofs.Exact.{exact_count, exact_up_to}
-use Rattle.records.proofs.FieldLaws.{byte_there}
+use Rattle.records.specs.Scan.{times_of as times-reader, Goes}
 use Rattle.records.specs.declared.Scan.{Scan}
 use Rattle.records.proofs.record.+reading.Given as goal
 

@@ -20,7 +20,7 @@ returns-then-k-ne0 c =
     assign_stop c.requires.at_value.0 c.bytes-d.ensures (sym c.is_word.ensures ∙ c.if-not-is_word.false) c.requires.room_value c.bytes-k.ensures c.if-k-ne0.true
 
 pub bounds-s-at : goal.bounds-s-at
-bounds-s-at c =  byte_there exact_next c.bytes-d.ensures.within (one_byte c.bytes-k.ensures) c.if-k-ne0.false
+bounds-s-at c = byte_there exact_next c.bytes-d.ensures.within (one_byte c.bytes-k.ensures) c.if-k-ne0.false
 
 pub returns-then-s-at-ne2 : goal.returns-then-s-at-ne2
 unfolding ascii

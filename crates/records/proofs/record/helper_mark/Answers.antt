@@ -15,23 +15,23 @@ place = place_of helper_marks tt
 
 pub returns-then-is_word : goal.returns-then-is_word
 unfolding ascii
-returns-then-is_word c =  place _ 2 (omega arith) (sym c.is_word.ensures ∙ c.if-is_word.true)
+returns-then-is_word c = place _ 2 (omega arith) (sym c.is_word.ensures ∙ c.if-is_word.true)
 
 pub returns-then-is_word-2 : goal.returns-then-is_word-2
 unfolding ascii
-returns-then-is_word-2 c =  place _ 0 (omega arith) (sym c.is_word-2.ensures ∙ c.if-is_word-2.true)
+returns-then-is_word-2 c = place _ 0 (omega arith) (sym c.is_word-2.ensures ∙ c.if-is_word-2.true)
 
 pub returns-then-is_word-3 : goal.returns-then-is_word-3
 unfolding ascii
-returns-then-is_word-3 c =  place _ 1 (omega arith) (sym c.is_word-3.ensures ∙ c.if-is_word-3.true)
+returns-then-is_word-3 c = place _ 1 (omega arith) (sym c.is_word-3.ensures ∙ c.if-is_word-3.true)
 
 pub returns-then-is_word-4 : goal.returns-then-is_word-4
 unfolding ascii
-returns-then-is_word-4 c =  place _ 3 (omega arith) (sym c.is_word-4.ensures ∙ c.if-is_word-4.true)
+returns-then-is_word-4 c = place _ 3 (omega arith) (sym c.is_word-4.ensures ∙ c.if-is_word-4.true)
 
 pub returns-then-is_word-5 : goal.returns-then-is_word-5
 unfolding ascii
-returns-then-is_word-5 c =  place _ 4 (omega arith) (sym c.is_word-5.ensures ∙ c.if-is_word-5.true)
+returns-then-is_word-5 c = place _ 4 (omega arith) (sym c.is_word-5.ensures ∙ c.if-is_word-5.true)
 
 pub returns : goal.returns
 unfolding ascii

@@ -8,11 +8,11 @@ use Rattle.records.proofs.record.pattern.Goals as goal
 
 pub returns-then-d-ne0 : goal.returns-then-d-ne0
 unfolding fault_number
-returns-then-d-ne0 c =  pattern_stop c.requires.at_in_bounds (c.at_most-d.ensures.reads malformed refl) c.if-d-ne0.true
+returns-then-d-ne0 c = pattern_stop c.requires.at_in_bounds (c.at_most-d.ensures.reads malformed refl) c.if-d-ne0.true
 
 pub bounds-s-at : goal.bounds-s-at
 unfolding fault_number
-bounds-s-at c =  byte_there (exact_up_to 1) c.requires.at_in_bounds (c.at_most-d.ensures.reads malformed refl) c.if-d-ne0.false
+bounds-s-at c = byte_there (exact_up_to 1) c.requires.at_in_bounds (c.at_most-d.ensures.reads malformed refl) c.if-d-ne0.false
 
 pub returns-then-s-at-eq0 : goal.returns-then-s-at-eq0
 unfolding fault_number

@@ -1,5 +1,4 @@
 -- `records::record::reference` meets its contract. Assumes nothing.
-use borrow.Author.Rules.{rules}
 use Rattle.records.proofs.KindLaws.{reads_reference}
 use Rattle.records.proofs.record.reference.Goals as goal
 

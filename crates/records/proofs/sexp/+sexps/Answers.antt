@@ -1,17 +1,14 @@
 -- The S records of `records::sexp`: `sexp`, `pair` and `child_sexp` meet their contracts. What falls is the SC depth left. Assumes nothing.
-use Prim.Native.Nat.{ℕ, ◌<◌, ◌+◌, ◌*◌}
+use Prim.Native.Nat.{ℕ}
 use mathlib.Core.Path.{sym, ◌∙◌}
 use borrow.Author.Rules.{rules}
 use Rattle.records.proofs.Scans.{reads_refused}
 use Rattle.records.proofs.SexpLaws.{sexp_nil, sexp_pair, sexp_deep, sexp_integer, sexp_quoted, sexp_atom, sexp_unknown, pair_parts, child_sexp_moves, none_of_five}
 use Rattle.records.proofs.sexp.child_sexp.Reads as child-sexp
-use Rattle.records.proofs.sexp.child_sexp.Kinds as child-sexp-kinds
 use Rattle.records.proofs.sexp.+sexps.Lts-child_sexp as child-sexp-lts
 use Rattle.records.proofs.sexp.pair.Reads as pair
-use Rattle.records.proofs.sexp.pair.Kinds as pair-kinds
 use Rattle.records.proofs.sexp.+sexps.Lts-pair as pair-lts
 use Rattle.records.proofs.sexp.sexp.Reads as sexp
-use Rattle.records.proofs.sexp.sexp.Kinds as sexp_kinds
 use Rattle.records.proofs.sexp.+sexps.Lts-sexp as sexp-lts
 use Rattle.records.proofs.fields.bytes.Reads as bytes-reads
 use Rattle.records.proofs.fields.integer.Reads as integer-reads

@@ -1,11 +1,5 @@
 -- The S records of `records::sexp`: `sexp`, `pair` and `child_sexp` meet their contracts. What falls is the SC depth left. Assumes nothing.
-use Prim.Native.Nat.{ℕ, ◌<◌, ◌+◌, ◌*◌}
-use mathlib.Core.Path.{sym, ◌∙◌}
-use borrow.Author.Rules.{rules}
-use Rattle.records.proofs.Scans.{reads_refused}
-use Rattle.records.proofs.SexpLaws.{sexp_nil, sexp_pair, sexp_deep, sexp_integer, sexp_quoted, sexp_atom, sexp_unknown, pair_parts, child_sexp_moves, none_of_five}
-use borrow.Fn.Kinds.{In}
-use borrow.Fn.PlainCycle.{Measures, is, falls, and}
+use Prim.Native.Nat.{◌+◌, ◌*◌}
 use Rattle.records.proofs.sexp.+sexps.Given as goal
 
 abbrev pub decreases-child_sexp : goal.decreases-child_sexp

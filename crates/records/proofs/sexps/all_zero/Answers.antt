@@ -1,10 +1,7 @@
 -- `crate::sexps::all_zero` meets its contract. The invariant: all bytes are 00 where the rest is.
 -- Assumes nothing.
-use mathlib.Core.Path.{◌≡◌, refl, sym, ◌∙◌}
-use Prim.Native.Nat.{◌≤◌, ◌-◌}
+use mathlib.Core.Path.{refl, sym, ◌∙◌}
 use native.Mathlib.Omega.{arith}
-use lib.ListN.{length, drop}
-use Rattle.records.specs.Sexps.{all_zero}
 use Rattle.records.proofs.Zeros.{zero_go, zero_stop, zero_end}
 use Rattle.records.proofs.sexps.all_zero.Goals as goal
 
@@ -22,4 +19,4 @@ loop-i-preserved c =
     (omega arith, zero_go _ l.i (omega arith) c.if-s-i-ne0.false ∙ l.invariant.1)
 
 pub returns : goal.returns
-returns c =  sym (zero_end _ c.loop-i.i (omega arith)) ∙ c.loop-i.invariant.1
+returns c = sym (zero_end _ c.loop-i.i (omega arith)) ∙ c.loop-i.invariant.1

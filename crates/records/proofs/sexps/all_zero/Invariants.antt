@@ -1,10 +1,8 @@
 -- `crate::sexps::all_zero` meets its contract. The invariant: all bytes are 00 where the rest is.
-use mathlib.Core.Path.{◌≡◌, refl, sym, ◌∙◌}
+use mathlib.Core.Path.{◌≡◌}
 use Prim.Native.Nat.{◌≤◌, ◌-◌}
-use native.Mathlib.Omega.{arith}
 use lib.ListN.{length, drop}
 use Rattle.records.specs.Sexps.{all_zero}
-use Rattle.records.proofs.Zeros.{zero_go, zero_stop, zero_end}
 use Rattle.records.proofs.sexps.all_zero.Given as goal
 
 abbrev pub invariant-loop-i : goal.invariant-loop-i

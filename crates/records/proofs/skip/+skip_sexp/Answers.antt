@@ -2,8 +2,7 @@
 use borrow.Author.Rules.{rules}
 use mathlib.Core.Path.{sym, ◌∙◌}
 use native.Mathlib.Omega.{arith}
-use Prim.Native.Nat.{ℕ, ◌<◌}
-use lib.ListN.{length}
+use Prim.Native.Nat.{ℕ}
 use Rattle.records.specs.Views.{SeesSexp}
 use Rattle.records.specs.declared.SexpView.TheVariants.{Pair}
 use Rattle.records.proofs.SexpLaws.{none_of_five}
@@ -14,7 +13,6 @@ use Rattle.records.proofs.past.integer_view.Reads as integer-view-reads
 use Rattle.records.proofs.past.past_bytes.Reads as past-bytes-reads
 use Rattle.records.proofs.past.name_view.Reads as name-view-reads
 use Rattle.records.proofs.skip.skip_sexp.Reads as reads
-use Rattle.records.proofs.skip.skip_sexp.Kinds as kinds
 use Rattle.records.proofs.skip.+skip_sexp.Lts-skip_sexp as lts
 use Rattle.records.proofs.skip.+skip_sexp.Goals as goal
 use mathlib.Core.List.{[]}

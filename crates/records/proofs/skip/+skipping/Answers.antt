@@ -1,40 +1,29 @@
 -- The B, BB, H and CF records of `crate::skip`: every member of the cycle meets its contract. What falls is the length of the bytes that are left. Assumes nothing.
-use Prim.Native.Nat.{ℕ, ◌+◌, ◌*◌, ◌-◌, ◌≤◌, ◌<◌}
+use Prim.Native.Nat.{ℕ}
 use native.Mathlib.Omega.{arith}
 use borrow.Author.Rules.{rules}
 use mathlib.Core.Path.{refl, sym, ◌∙◌}
-use lib.ListN.{length}
-use Rattle.names.specs.Segments.{At}
-use Rattle.records.specs.Parts.{family_part, list_part}
-use Rattle.records.proofs.Parts.{skips_past, Left, left_step, left_none}
+use Rattle.records.specs.Parts.{family_part}
+use Rattle.records.proofs.Parts.{skips_past, left_step, left_none}
 use Rattle.records.proofs.MarkedLaws.{BodyOf, HelperOf, family_long, no_body, no_helper}
 use Rattle.records.proofs.SkipLaws.{skips_short, body_skips, helper_skips, many_past, no_tail_past, tail_past, let_ends, quote_ends, value_ends, call_ends, mod_ends, lambda_ends, binding_ends, constant_ends, macro_ends, function_ends, namespace_ends, reference_ends, form_ends}
 use Rattle.records.proofs.skip.after.Reads as after
-use Rattle.records.proofs.skip.after.Kinds as after-kinds
 use Rattle.records.proofs.skip.+skipping.Lts-after as after-lts
 use Rattle.records.proofs.skip.binding.Reads as binding
-use Rattle.records.proofs.skip.binding.Kinds as binding-kinds
 use Rattle.records.proofs.skip.+skipping.Lts-binding as binding-lts
 use Rattle.records.proofs.skip.body.Reads as body
-use Rattle.records.proofs.skip.body.Kinds as body_kinds
 use Rattle.records.proofs.skip.+skipping.Lts-body as body-lts
 use Rattle.records.proofs.skip.form.Reads as form
-use Rattle.records.proofs.skip.form.Kinds as form_kinds
 use Rattle.records.proofs.skip.+skipping.Lts-form as form-lts
 use Rattle.records.proofs.skip.helper.Reads as helper
-use Rattle.records.proofs.skip.helper.Kinds as helper_kinds
 use Rattle.records.proofs.skip.+skipping.Lts-helper as helper-lts
 use Rattle.records.proofs.skip.many.Reads as many
-use Rattle.records.proofs.skip.many.Kinds as many-kinds
 use Rattle.records.proofs.skip.+skipping.Lts-many as many-lts
 use Rattle.records.proofs.skip.past_record.Reads as past-record
-use Rattle.records.proofs.skip.past_record.Kinds as past-record-kinds
 use Rattle.records.proofs.skip.+skipping.Lts-past_record as past-record-lts
 use Rattle.records.proofs.skip.skip.Reads as skip
-use Rattle.records.proofs.skip.skip.Kinds as skip-kinds
 use Rattle.records.proofs.skip.+skipping.Lts-skip as skip-lts
 use Rattle.records.proofs.skip.tail.Reads as tail
-use Rattle.records.proofs.skip.tail.Kinds as tail-kinds
 use Rattle.records.proofs.skip.+skipping.Lts-tail as tail-lts
 use Rattle.records.proofs.past.byte_at.Reads as byte-at-reads
 use Rattle.records.proofs.past.past_bytes.Reads as past-bytes-reads

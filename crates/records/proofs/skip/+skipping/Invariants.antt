@@ -1,16 +1,9 @@
 -- The B, BB, H and CF records of `crate::skip`: every member of the cycle meets its contract. What falls is the length of the bytes that are left. Assumes nothing.
-use Prim.Native.Nat.{ℕ, ◌+◌, ◌*◌, ◌-◌, ◌≤◌, ◌<◌}
-use native.Mathlib.Omega.{arith}
-use borrow.Author.Rules.{rules}
-use mathlib.Core.Path.{refl, sym, ◌∙◌}
+use Prim.Native.Nat.{◌+◌, ◌*◌, ◌-◌, ◌≤◌}
 use lib.ListN.{length}
 use Rattle.names.specs.Segments.{At}
 use Rattle.records.specs.Parts.{family_part, list_part}
-use Rattle.records.proofs.Parts.{skips_past, Left, left_step, left_none}
-use Rattle.records.proofs.MarkedLaws.{BodyOf, HelperOf, family_long, no_body, no_helper}
-use Rattle.records.proofs.SkipLaws.{skips_short, body_skips, helper_skips, many_past, no_tail_past, tail_past, let_ends, quote_ends, value_ends, call_ends, mod_ends, lambda_ends, binding_ends, constant_ends, macro_ends, function_ends, namespace_ends, reference_ends, form_ends}
-use borrow.Fn.Kinds.{In}
-use borrow.Fn.PlainCycle.{Measures, is, falls, and}
+use Rattle.records.proofs.Parts.{Left}
 use Rattle.records.proofs.skip.+skipping.Given as goal
 
 abbrev pub decreases-after : goal.decreases-after

@@ -1,60 +1,41 @@
 -- What falls in the cycle of the reader: 16 times the levels that are left, and the phase, which is larger for a record than for what it goes on to; and
-use Prim.Native.Nat.{ℕ, ◌+◌, ◌*◌, ◌<◌}
+use Prim.Native.Nat.{ℕ}
 use Rattle.records.specs.declared.Context.{Context}
-use Rattle.records.proofs.Goes.{weight}
 use Rattle.records.proofs.record.binding.Reads as binding
-use Rattle.records.proofs.record.binding.Kinds as binding-kinds
 use Rattle.records.proofs.record.+reading.Lts-binding as binding-lts
 use Rattle.records.proofs.record.body.Reads as body
-use Rattle.records.proofs.record.body.Kinds as body_kinds
 use Rattle.records.proofs.record.+reading.Lts-body as body-lts
 use Rattle.records.proofs.record.call.Reads as call
-use Rattle.records.proofs.record.call.Kinds as call-kinds
 use Rattle.records.proofs.record.+reading.Lts-call as call-lts
 use Rattle.records.proofs.record.child.Reads as child
-use Rattle.records.proofs.record.child.Kinds as child-kinds
 use Rattle.records.proofs.record.+reading.Lts-child as child-lts
 use Rattle.records.proofs.record.constant.Reads as constant
-use Rattle.records.proofs.record.constant.Kinds as constant-kinds
 use Rattle.records.proofs.record.+reading.Lts-constant as constant-lts
 use Rattle.records.proofs.record.form.Reads as form
-use Rattle.records.proofs.record.form.Kinds as form_kinds
 use Rattle.records.proofs.record.+reading.Lts-form as form-lts
 use Rattle.records.proofs.record.function.Reads as function
-use Rattle.records.proofs.record.function.Kinds as function-kinds
 use Rattle.records.proofs.record.+reading.Lts-function as function-lts
 use Rattle.records.proofs.record.helper.Reads as helper
-use Rattle.records.proofs.record.helper.Kinds as helper_kinds
 use Rattle.records.proofs.record.+reading.Lts-helper as helper-lts
 use Rattle.records.proofs.record.lambda.Reads as lambda
-use Rattle.records.proofs.record.lambda.Kinds as lambda-kinds
 use Rattle.records.proofs.record.+reading.Lts-lambda as lambda-lts
 use Rattle.records.proofs.record.let_after.Reads as let_after
-use Rattle.records.proofs.record.let_after.Kinds as let-after-kinds
 use Rattle.records.proofs.record.+reading.Lts-let_after as let-after-lts
 use Rattle.records.proofs.record.let_form.Reads as let-form
-use Rattle.records.proofs.record.let_form.Kinds as let-form-kinds
 use Rattle.records.proofs.record.+reading.Lts-let_form as let-form-lts
 use Rattle.records.proofs.record.macro_form.Reads as macro-form
-use Rattle.records.proofs.record.macro_form.Kinds as macro-form-kinds
 use Rattle.records.proofs.record.+reading.Lts-macro_form as macro-form-lts
 use Rattle.records.proofs.record.many.Reads as many
-use Rattle.records.proofs.record.many.Kinds as many-kinds
 use Rattle.records.proofs.record.+reading.Lts-many as many-lts
 use Rattle.records.proofs.record.mod_form.Reads as mod-form
-use Rattle.records.proofs.record.mod_form.Kinds as mod-form-kinds
 use Rattle.records.proofs.record.+reading.Lts-mod_form as mod-form-lts
 use Rattle.records.proofs.record.namespace.Reads as namespace
-use Rattle.records.proofs.record.namespace.Kinds as namespace-kinds
 use Rattle.records.proofs.record.+reading.Lts-namespace as namespace-lts
 use Rattle.records.proofs.record.read_record.Reads as read-record
-use Rattle.records.proofs.record.read_record.Kinds as read-record-kinds
 use Rattle.records.proofs.record.+reading.Lts-read_record as read-record-lts
 use Rattle.records.proofs.record.tail.Reads as tail
-use Rattle.records.proofs.record.tail.Kinds as tail-kinds
 use Rattle.records.proofs.record.+reading.Lts-tail as tail-lts
 use Rattle.records.proofs.record.times.Reads as times
-use Rattle.records.proofs.record.times.Kinds as times-kinds
 use Rattle.records.proofs.record.+reading.Lts-times as times-lts
 use Rattle.names.proofs.bytes.is_word.Reads as is-word-reads
 use Rattle.records.proofs.fields.at_most.Reads as at-most-reads
@@ -76,7 +57,6 @@ use Rattle.records.proofs.record.pattern.Reads as pattern-reads
 use Rattle.records.proofs.record.reference.Reads as reference-reads
 use Rattle.records.proofs.sexp.child_sexp.Reads as child-sexp-reads
 use Rattle.records.proofs.record.+reading.Goals as goal
-use mathlib.Core.List.{[]}
 
 abbrev pub room : Context → ℕ
 room x = x.room

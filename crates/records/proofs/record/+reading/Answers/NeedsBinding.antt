@@ -1,6 +1,5 @@
 -- What `binding` needs to meet its contract. Assumes nothing.
 use Prim.Native.Nat.{ℕ}
-use borrow.Author.Tests.{not-true, not-false}
 use mathlib.Core.Path.{sym, ◌∙◌}
 use Rattle.names.specs.Names.{ascii}
 use Rattle.records.proofs.BodyLaws.{binding_kind, binding_unknown}
@@ -9,7 +8,6 @@ use Rattle.records.proofs.record.binding.Reads as binding
 use Rattle.records.proofs.record.+reading.Lts-binding as binding-lts
 use Rattle.records.proofs.record.+reading.Answers.Base.{binding-calls}
 use Rattle.records.proofs.record.+reading.Goals as goal
-use mathlib.Core.List.{[]}
 
 -- places
 module _ (t : ℕ) where

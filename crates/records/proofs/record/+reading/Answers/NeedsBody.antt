@@ -14,7 +14,6 @@ use Rattle.records.proofs.record.+reading.Lts-body as body-lts
 use Rattle.records.proofs.record.+reading.Answers.Base.{room, mark, body-calls}
 use borrow.Author.Rules.{rules}
 use Rattle.records.proofs.record.+reading.Goals as goal
-use mathlib.Core.List.{[]}
 
 -- places
 module _ (t : ℕ) where

@@ -9,7 +9,6 @@ use Rattle.records.proofs.record.read_record.Reads as read-record
 use Rattle.records.proofs.record.+reading.Lts-read_record as read-record-lts
 use Rattle.records.proofs.record.+reading.Answers.Base.{child-calls, read-record-calls}
 use Rattle.records.proofs.record.+reading.Goals as goal
-use mathlib.Core.List.{[]}
 
 -- needs
 module _ (t : ℕ) where

@@ -1,7 +1,6 @@
 -- What `form` needs to meet its contract. Assumes nothing.
 use Prim.Native.Nat.{ℕ}
 use native.Mathlib.Omega.{arith}
-use borrow.Author.Tests.{not-true, not-false}
 use mathlib.Core.Path.{ap, sym, ◌∙◌}
 use Rattle.names.specs.Names.{ascii}
 use Rattle.records.proofs.BodyLaws.{form_kind, form_deep, form_unknown}
@@ -10,7 +9,6 @@ use Rattle.records.proofs.record.form.Reads as form
 use Rattle.records.proofs.record.+reading.Lts-form as form-lts
 use Rattle.records.proofs.record.+reading.Answers.Base.{room, mark, form-calls}
 use Rattle.records.proofs.record.+reading.Goals as goal
-use mathlib.Core.List.{[]}
 
 -- places
 module _ (t : ℕ) where

@@ -13,7 +13,6 @@ use Rattle.records.proofs.record.+reading.Lts-helper as helper-lts
 use Rattle.records.proofs.record.+reading.Answers.Base.{room, mark, helper-calls}
 use borrow.Author.Rules.{rules}
 use Rattle.records.proofs.record.+reading.Goals as goal
-use mathlib.Core.List.{[]}
 
 -- places
 module _ (t : ℕ) where

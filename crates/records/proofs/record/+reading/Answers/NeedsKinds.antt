@@ -17,7 +17,6 @@ use Rattle.records.proofs.record.namespace.Reads as namespace
 use Rattle.records.proofs.record.+reading.Lts-namespace as namespace-lts
 use Rattle.records.proofs.record.+reading.Answers.Base.{call-calls, constant-calls, function-calls, macro-form-calls, mod-form-calls, namespace-calls}
 use Rattle.records.proofs.record.+reading.Goals as goal
-use mathlib.Core.List.{[]}
 
 -- needs
 module _ (t : ℕ) where

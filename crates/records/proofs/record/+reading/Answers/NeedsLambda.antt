@@ -7,7 +7,6 @@ use Rattle.records.proofs.record.lambda.Reads as lambda
 use Rattle.records.proofs.record.+reading.Lts-lambda as lambda-lts
 use Rattle.records.proofs.record.+reading.Answers.Base.{lambda-calls}
 use Rattle.records.proofs.record.+reading.Goals as goal
-use mathlib.Core.List.{[]}
 
 -- places
 module _ (t : ℕ) where

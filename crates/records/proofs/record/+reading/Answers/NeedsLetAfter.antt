@@ -9,7 +9,6 @@ use Rattle.records.proofs.record.let_after.Reads as let_after
 use Rattle.records.proofs.record.+reading.Lts-let_after as let-after-lts
 use Rattle.records.proofs.record.+reading.Answers.Base.{room, mark, let-after-calls}
 use Rattle.records.proofs.record.+reading.Goals as goal
-use mathlib.Core.List.{[]}
 
 -- places
 module _ (t : ℕ) where

@@ -9,7 +9,6 @@ use Rattle.records.proofs.record.let_form.Reads as let-form
 use Rattle.records.proofs.record.+reading.Lts-let_form as let-form-lts
 use Rattle.records.proofs.record.+reading.Answers.Base.{let-form-calls}
 use Rattle.records.proofs.record.+reading.Goals as goal
-use mathlib.Core.List.{[]}
 
 -- places
 module _ (t : ℕ) where

@@ -7,7 +7,6 @@ use Rattle.records.proofs.record.many.Reads as many
 use Rattle.records.proofs.record.+reading.Lts-many as many-lts
 use Rattle.records.proofs.record.+reading.Answers.Base.{many-calls}
 use Rattle.records.proofs.record.+reading.Goals as goal
-use mathlib.Core.List.{[]}
 
 -- places
 module _ (t : ℕ) where

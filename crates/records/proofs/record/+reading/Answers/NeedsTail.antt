@@ -9,7 +9,6 @@ use Rattle.records.proofs.record.tail.Reads as tail
 use Rattle.records.proofs.record.+reading.Lts-tail as tail-lts
 use Rattle.records.proofs.record.+reading.Answers.Base.{tail-calls}
 use Rattle.records.proofs.record.+reading.Goals as goal
-use mathlib.Core.List.{[]}
 
 -- places
 module _ (t : ℕ) where

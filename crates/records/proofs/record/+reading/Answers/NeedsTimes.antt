@@ -1,15 +1,11 @@
 -- What `times` needs to meet its contract. What stays in its loop is that the rest of the reading is the rest of the whole; what falls is how many are left.
-use Prim.Native.Nat.{ℕ, ◌-◌, ◌≤◌}
+use Prim.Native.Nat.{ℕ}
 use native.Mathlib.Omega.{arith}
-use lib.ListN.{length}
-use Rattle.records.specs.declared.Scan.{Scan}
-use Rattle.records.specs.Scan.{times_of as times-reader, Goes}
 use Rattle.records.proofs.Goes.{loop_first, loop_next, loop_last}
 use Rattle.records.proofs.record.times.Reads as times
 use Rattle.records.proofs.record.+reading.Lts-times as times-lts
 use Rattle.records.proofs.record.+reading.Answers.Base.{times-calls}
 use Rattle.records.proofs.record.+reading.Goals as goal
-use mathlib.Core.List.{[]}
 
 -- needs
 module _ (t : ℕ) where
