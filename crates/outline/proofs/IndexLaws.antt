@@ -9,7 +9,7 @@ use denote.Enum.Declared.{tag_of}
 use types.Run.{OneOf, miss}
 use lib.ListN.{length, take, drop, get_or, length-append}
 use lib.Seq.{take_at, length-take-le, drop-length, drop-cons}
-use Rattle.names.specs.Names.{Bytes, same, name_field}
+use Rattle.names.specs.Names.{Bytes, name_field}
 use Rattle.names.specs.Segments.{At, Filled}
 use Rattle.names.proofs.Places.{at_whole, at_left, at_right, at_join, at_place}
 use Rattle.names.proofs.Parts.{part, back, part_length, back_length, at_back, into}
@@ -63,6 +63,7 @@ child_indexes {s} {mem} {mem'} {a} {c} {r} from e b x =
           counts = rw append-nil (ap (λ (k : ℕ). c.count + k) n);
           entries = rw append-nil (at_place (entry_width * c.count) (add-zero from ∙ e) (at_back mem from (length mem - from) fit mem' len (x.lists y w there)));
         }
+    go len fit (a_plain_field {bs = bs} x9) h = elim x9 [ ]
 
 -- the numbers of the fields without records
 abbrev pub plain_tags : List ℕ
@@ -111,6 +112,7 @@ module _ {s mem : Bytes} {a : Around} {c : Counted} {at tag : ℕ} (b : Begun s 
           let w = after_tag 0 (bytes_then (name_field n) no_more) h in
           entered_bytes (byte 0) w.1 (entered_bytes (name_field n) (y.past n v (at_left (name_field n) [] w.2)) (entered_none (begun_on b past_name)))
       go (a_complex_pattern {x = e} v) h = absurd (omega (arith, (after_tag 1 (record_alone e) h).0))
+      go (a_plain_field {bs = bs} x7) h = elim x7 [ ]
 
   -- no tail
   pub no_tail_indexes : tag ≡ 0 → IndexesOn (FieldIs fields.Tail) s mem mem a c (counted_to c.count at)
@@ -119,6 +121,7 @@ module _ {s mem : Bytes} {a : Around} {c : Counted} {at tag : ℕ} (b : Begun s 
       go : {p : Pieces} → FieldIs fields.Tail p → At s c.end (pieces_bytes p) → Entered mem a c (counted_to c.count at) p
       go no_tail_field h = entered_bytes (byte 0) (after_tag 0 no_more h).1 (entered_none begun_after_tag)
       go (a_tail_field {x = e} v) h = absurd (omega (arith, (after_tag 1 (record_alone e) h).0))
+      go (a_plain_field {bs = bs} x7) h = elim x7 [ ]
 
   -- not 0: a record follows
   module _ {mem' : Bytes} {r : Counted} (n : tag ≡ 0 → ⊥) (y : IndexesOn (FieldIs fields.Record) s mem mem' a (counted_to c.count at) r) where
@@ -139,6 +142,7 @@ module _ {s mem : Bytes} {a : Around} {c : Counted} {at tag : ℕ} (b : Begun s 
         go : {p : Pieces} → FieldIs fields.Pattern p → At s c.end (pieces_bytes p) → Entered mem' a c r p
         go (a_complex_pattern v) h = record_after_tag v h
         go (a_name_pattern m v) h = absurd (n (after_tag 0 (bytes_then (name_field m) no_more) h).0)
+        go (a_plain_field {bs = bs} x7) h = elim x7 [ ]
 
     -- a tail
     pub tail_indexes : IndexesOn (FieldIs fields.Tail) s mem mem' a c r
@@ -147,6 +151,7 @@ module _ {s mem : Bytes} {a : Around} {c : Counted} {at tag : ℕ} (b : Begun s 
         go : {p : Pieces} → FieldIs fields.Tail p → At s c.end (pieces_bytes p) → Entered mem' a c r p
         go (a_tail_field v) h = record_after_tag v h
         go no_tail_field h = absurd (n (after_tag 0 no_more h).0)
+        go (a_plain_field {bs = bs} x7) h = elim x7 [ ]
 
 -- a count, and that many records
 pub several_indexes : {s mem mem' : Bytes} {a : Around} {c d : Counted} {at n i : ℕ} → Begun s mem a c → n ≡ get_or s c.end 0 → Past (fixed_part 1) s c.end at → n ≤ i
@@ -158,6 +163,7 @@ several_indexes {s} {mem} {mem'} {a} {c} {d} {at} {n} b t x l g h = record { goe
     go (several_records xs v) there =
         let w = after_tag b t x (length xs) (records_then xs) there in
         entered_bytes (byte (length xs)) w.1 (reached_records (h (records_then xs) (record { all = xs; number = omega (arith, w.0); good = v; same = refl }) w.2) l)
+    go (a_plain_field {bs = bs} x7) there = elim x7 [ ]
 
 -- the next field of a row
 pub row_at : (row : List Field) (i : ℕ) → i < length row → drop i row ≡ get_or row i fields.Nothing ∷ drop (i + 1) row

@@ -1,7 +1,7 @@
 -- Worked cases of a page, by computation: what stands on the lines of small forms, and a buffer that is just long enough or one byte short.
 -- Assumes nothing.
 use mathlib.Core.Path.{◌≡◌, refl}
-use mathlib.Core.List.{List, [], ◌∷◌, ◌++◌, map}
+use mathlib.Core.List.{[], ◌∷◌, ◌++◌, map}
 use Prim.Native.Nat.{ℕ, ◌-◌}
 use Prim.Native.String.{String}
 use lib.ListN.{length, replicate, take}

@@ -1,0 +1,54 @@
+-- `ordering::assign::find_needs` meets its contract. The invariant: what is collected after j bodies. Assumes nothing.
+use mathlib.Core.Path.{refl, subst, ◌∙◌}
+use native.Mathlib.Omega.{arith}
+use Prim.Native.Nat.{ℕ, ◌≤◌, ◌<◌}
+use lib.ListN.{length, set, length-set}
+use Rattle.ordering.specs.Assign.{all_needs}
+use Rattle.ordering.specs.Needs.{Starts}
+use Rattle.ordering.proofs.Collected.{collected_none, collected_next, body_added, collected_starts, collected_all, provisions_given}
+use Rattle.ordering.proofs.assign.find_needs.Goals as goal
+
+pub loop-j-init : goal.loop-j-init
+loop-j-init c =  (omega arith, refl, refl, λ bs b. collected_none bs)
+
+pub bounds-starts-j : goal.bounds-starts-j
+bounds-starts-j c = omega (arith, c.loop-j.invariant.2, c.requires.bodies_len_bound.1)
+
+pub slice_bounds-body_needs-count : goal.slice_bounds-body_needs-count
+slice_bounds-body_needs-count c =
+    let w = c.requires.collectable in
+    omega (arith, (w.1.bodies_at.there c.loop-j.j (omega (arith, w.1.size))).fits)
+
+pub slice_bounds-body_needs-start : goal.slice_bounds-body_needs-start
+slice_bounds-body_needs-start c =
+    let w = c.requires.collectable in
+    omega (arith, (w.1.bodies_at.there c.loop-j.j (omega (arith, w.1.size))).fits)
+
+pub body_needs-r-requires : goal.body_needs-r-requires
+body_needs-r-requires c =
+    let l = c.loop-j in
+    let w = c.requires.collectable in
+    let f = l.invariant.3 w.0 w.1 in
+    (provisions_given _ _ w.0 w.1.provisions (omega (arith, w.1.size, c.requires.bodies_len_bound.0)), omega (arith, f.there.fits, f.count))
+
+pub loop-j-preserved : goal.loop-j-preserved
+loop-j-preserved c =
+    let l = c.loop-j in
+    let g = c.body_needs-r in (
+      omega arith,
+      omega arith,
+      length-set l.starts l.j l.n ∙ l.invariant.2,
+      λ bs b.
+          let f = l.invariant.3 bs b in
+          let lt : l.j < length bs = omega (arith, b.size) in
+          let fits : length (all_needs bs bs) ≤ length l.needs = omega (arith, b.fits, l.invariant.1) in
+          collected_next f lt fits (omega (arith, l.invariant.2, c.requires.bodies_len_bound.1)) (body_added f lt fits b.provisions b.bodies_at g.ensures),
+    )
+
+pub bounds-starts-j-2 : goal.bounds-starts-j-2
+bounds-starts-j-2 c = omega (arith, c.loop-j.invariant.2, c.requires.bodies_len_bound.1)
+
+pub returns : goal.returns
+returns c =
+    let l = c.loop-j in let room : l.j < length l.starts = omega (arith, l.invariant.2, c.requires.bodies_len_bound.1) in let w = c.requires.collectable in record { starts = subst (λ (k : ℕ). Starts k l.needs (set l.starts l.j l.n)) w.1.size
+          (collected_starts (l.invariant.3 w.0 w.1) (omega (arith, w.1.size)) room (omega (arith, w.1.size, c.requires.bodies_len_bound.0)) (omega (arith, w.1.fits, l.invariant.1))); finds_needs = λ bs b. collected_all (l.invariant.3 bs b) (omega (arith, b.size)) room }
