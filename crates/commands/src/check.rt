@@ -4,38 +4,52 @@ ghost use Rattle.records.specs.Limits.{most_longest};
 ghost use Rattle.commands.specs.Records.{RecordsIn};
 
 use crate::{MOST_READ, WORK, file, refusal, say};
-use libc::STDOUT_FILENO;
 use outline::ENTRY_WIDTH;
 use outline::index::index_input;
 use records::input::open_input;
 use records::{MOST_LONGEST, Opening, Wanted};
+use std::io;
+use std::rt::Files;
 
 // The length of work memory that holds the index of every record.
 const INDEX: usize = ENTRY_WIDTH * MOST_LONGEST;
 
 // Reads a file and judges its bytes.
-pub fn check(to: i32, wanted: Wanted, path: &[u8], f: usize) {
+pub fn check(
+    rt: &(impl Files + Print),
+    to: &impl Print,
+    wanted: Wanted,
+    path: &[u8],
+    f: usize,
+) -> io::Result<()> {
     let mut input = [0u8; MOST_READ];
-    let c = file::read(to, path, &mut input);
+    let c = file::read(rt, to, path, &mut input)?;
     let len = c.len;
     if c.read {
-        judge(to, &input[..len], wanted, f);
+        judge(rt, to, &input[..len], wanted, f)?;
     }
+    Ok(())
 }
 
 // Prints that the bytes of a file are accepted and how many records they have, or the refusal.
-fn judge(to: i32, input: &[u8], wanted: Wanted, f: usize) {
+fn judge(
+    out: &impl Print,
+    to: &impl Print,
+    input: &[u8],
+    wanted: Wanted,
+    f: usize,
+) -> io::Result<()> {
     match open_input(wanted, f, WORK, 0, input) {
         Opening::Refused(refusal) => refusal::print(to, refusal, false, input.len() > f),
         Opening::Accepted => {
             let mut mem = [0u8; INDEX];
             let n = records_in(input, &mut mem);
-            say::text(STDOUT_FILENO, b"accepted: ");
-            say::number(STDOUT_FILENO, n as u64);
+            say::text(out, b"accepted: ")?;
+            say::number(out, n as u64)?;
             if n == 1 {
-                say::text(STDOUT_FILENO, b" record\n");
+                say::text(out, b" record\n")
             } else {
-                say::text(STDOUT_FILENO, b" records\n");
+                say::text(out, b" records\n")
             }
         }
     }

@@ -1,7 +1,7 @@
 // The commands of the program that need no renaming, and what all of them share.
 //
 // Results go to standard output. What is refused, and what is wrong with an argument or a file, goes
-// to the descriptor that a command is given.
+// to the output `to` that a command is given. A write that fails ends the command with its error.
 #![tactic(auto)]
 
 pub mod check;

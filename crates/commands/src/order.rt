@@ -9,54 +9,69 @@ ghost use Rattle.ordering.specs.Provisions.{Given};
 
 use crate::ready::ready;
 use crate::{MOST_READ, WORK, columns, file, provided, refusal, say, waits};
-use libc::STDOUT_FILENO;
 use ordering::assign::find_names;
 use ordering::call::order_call;
 use ordering::{BINDING_LIMIT, NEED_LIMIT};
 use records::bodies::let_view;
 use records::input::open_input;
 use records::{COUNT_LIMIT, Opening, Wanted};
+use std::io;
+use std::rt::Files;
 
 // Reads a file and orders its assign. Work memory is lent as an array, so that no proof has to count
 // its bytes.
-pub fn order(to: i32, path: &[u8], f: usize, work: &mut [u8; WORK]) {
+pub fn order(
+    rt: &(impl Files + Print),
+    to: &impl Print,
+    path: &[u8],
+    f: usize,
+    work: &mut [u8; WORK],
+) -> io::Result<()> {
     let mut input = [0u8; MOST_READ];
-    let c = file::read(to, path, &mut input);
+    let c = file::read(rt, to, path, &mut input)?;
     let len = c.len;
     if c.read {
-        ordered(to, &input[..len], f, work);
+        ordered(rt, to, &input[..len], f, work)?;
     }
+    Ok(())
 }
 
 // Orders an assign, and prints what the call answers.
-fn ordered(to: i32, s: &[u8], f: usize, work: &mut [u8; WORK]) {
+fn ordered(
+    out: &impl Print,
+    to: &impl Print,
+    s: &[u8],
+    f: usize,
+    work: &mut [u8; WORK],
+) -> io::Result<()> {
     let mut row = [0u8; BINDING_LIMIT];
     let a = order_call(f, work, 0, s, &mut row);
     let len = a.len;
     if len > BINDING_LIMIT {
-        return;
+        return Ok(());
     }
     let refusal = a.refusal;
     let number = refusal.number;
     if number == 0 && len == 0 {
-        say::text(STDOUT_FILENO, b"ordered: there are no bindings\n");
+        say::text(out, b"ordered: there are no bindings\n")?;
     } else if number == 0 {
-        told(STDOUT_FILENO, s, f, &row[..len], a.rounds);
+        told(out, s, f, &row[..len], a.rounds)?;
     } else {
-        refusal::print(to, refusal, false, s.len() > f);
+        refusal::print(to, refusal, false, s.len() > f)?;
         if number == 5 {
             say::text(
                 to,
                 b"stuck, each waiting for names that only stuck bindings provide:\n",
-            );
-            told(to, s, f, &row[..len], 0);
+            )?;
+            told(to, s, f, &row[..len], 0)?;
         }
     }
+    Ok(())
 }
 
 // Prints the bindings of a row: an order in so many rounds, or with no rounds the stuck ones. The
 // input is opened once more, to say that an assign stands in it.
-fn told(to: i32, s: &[u8], f: usize, row: &[u8], rounds: u64) {
+fn told(to: &impl Print, s: &[u8], f: usize, row: &[u8], rounds: u64) -> io::Result<()> {
     match open_input(Wanted::Assign, f, WORK, 0, s) {
         Opening::Refused(refusal) => refusal::print(to, refusal, false, s.len() > f),
         Opening::Accepted => names(to, s, row, rounds),
@@ -64,7 +79,7 @@ fn told(to: i32, s: &[u8], f: usize, row: &[u8], rounds: u64) {
 }
 
 // Lists the names that the bindings of an assign provide, and prints those of a row.
-fn names(to: i32, s: &[u8], row: &[u8], rounds: u64)
+fn names(to: &impl Print, s: &[u8], row: &[u8], rounds: u64) -> io::Result<()>
     requires s_len_bound { length s.now ≤ most_longest }
     requires fact { (k : Kind) × (l : Loc) × (w : Bytes) × (h : Bytes) × (bs : Bindings) × (b : Body) × Let s.now k l w h bs b }
 {
@@ -74,9 +89,9 @@ fn names(to: i32, s: &[u8], row: &[u8], rounds: u64)
     let mut bodies = [0usize; BINDING_LIMIT];
     let n = find_names(s, v.first, &mut given, &mut bodies[..count]);
     if rounds == 0 {
-        print_stuck(to, s, &given[..n], &bodies, bits_of(row));
+        print_stuck(to, s, &given[..n], &bodies, bits_of(row))
     } else {
-        print_ordered(to, s, &given[..n], &bodies, row, rounds);
+        print_ordered(to, s, &given[..n], &bodies, row, rounds)
     }
 }
 
@@ -108,10 +123,17 @@ fn met(s: &[u8], given: &[usize], bodies: &[usize], index: usize, before: u64) -
 
 // Prints the bindings in their order, one in each line, marked in the column of its round: a binding
 // that needs more than the columns before provide begins the next.
-fn print_ordered(to: i32, s: &[u8], given: &[usize], bodies: &[usize], row: &[u8], rounds: u64)
+fn print_ordered(
+    to: &impl Print,
+    s: &[u8],
+    given: &[usize],
+    bodies: &[usize],
+    row: &[u8],
+    rounds: u64,
+) -> io::Result<()>
     requires { Given s.now given.now }
 {
-    columns::head(to, rounds);
+    columns::head(to, rounds)?;
     let mut before = 0;
     let mut seen = 0;
     let mut column = 1;
@@ -123,35 +145,41 @@ fn print_ordered(to: i32, s: &[u8], given: &[usize], bodies: &[usize], row: &[u8
             column += 1;
         }
         seen |= bit(row[k]);
-        columns::mark(to, column, rounds);
-        print_binding(to, s, given, index);
-        say::text(to, b"\n");
+        columns::mark(to, column, rounds)?;
+        print_binding(to, s, given, index)?;
+        say::text(to, b"\n")?;
         k += 1;
     }
+    Ok(())
 }
 
 // Prints the stuck bindings, given as bits, one in each line, with the names that each waits for.
-fn print_stuck(to: i32, s: &[u8], given: &[usize], bodies: &[usize], stuck: u64)
+fn print_stuck(
+    to: &impl Print,
+    s: &[u8],
+    given: &[usize],
+    bodies: &[usize],
+    stuck: u64,
+) -> io::Result<()>
     requires { Given s.now given.now }
 {
     let mut rest = stuck;
-    let mut i = 0;
-    while i < bodies.len() {
+    for i in 0..bodies.len() {
         if rest % 2 == 1 {
-            print_binding(to, s, given, i);
-            say::text(to, b", waits for");
-            waits::print(to, s, given, bodies[i], stuck);
-            say::text(to, b"\n");
+            print_binding(to, s, given, i)?;
+            say::text(to, b", waits for")?;
+            waits::print(to, s, given, bodies[i], stuck)?;
+            say::text(to, b"\n")?;
         }
         rest /= 2;
-        i += 1;
     }
+    Ok(())
 }
 
 // Prints a binding's index, and the names that it provides.
-fn print_binding(to: i32, s: &[u8], given: &[usize], index: usize) {
-    say::text(to, b"  binding ");
-    say::number(to, index as u64);
-    say::text(to, b" provides");
-    provided::print(to, s, given, index);
+fn print_binding(to: &impl Print, s: &[u8], given: &[usize], index: usize) -> io::Result<()> {
+    say::text(to, b"  binding ")?;
+    say::number(to, index as u64)?;
+    say::text(to, b" provides")?;
+    provided::print(to, s, given, index)
 }

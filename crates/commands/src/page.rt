@@ -1,38 +1,61 @@
 // `rename page FILE F`: the call Page, printed.
 use crate::{MOST_READ, WORK, file, refusal, say};
-use libc::STDOUT_FILENO;
 use outline::LINE_WIDTH;
 use outline::page::page_call;
 use records::MOST_LONGEST;
+use std::io;
+use std::rt::Files;
 
 // The bytes of a page that is long enough for every form: a record has a byte at least.
 const MOST_PAGE: usize = (LINE_WIDTH + 1) * MOST_LONGEST;
 
 // Reads a file and prints the page of its form. Work memory and the page are lent as arrays, so that
 // no proof has to count their bytes.
-pub fn page(to: i32, path: &[u8], f: usize, work: &mut [u8; WORK]) {
+pub fn page(
+    rt: &(impl Files + Print),
+    to: &impl Print,
+    path: &[u8],
+    f: usize,
+    work: &mut [u8; WORK],
+) -> io::Result<()> {
     let mut lines = [0u8; MOST_PAGE];
-    read(to, path, f, work, &mut lines);
+    read(rt, to, path, f, work, &mut lines)
 }
 
 // Reads a file and lays its form out.
-fn read(to: i32, path: &[u8], f: usize, work: &mut [u8; WORK], lines: &mut [u8; MOST_PAGE]) {
+fn read(
+    rt: &(impl Files + Print),
+    to: &impl Print,
+    path: &[u8],
+    f: usize,
+    work: &mut [u8; WORK],
+    lines: &mut [u8; MOST_PAGE],
+) -> io::Result<()> {
     let mut input = [0u8; MOST_READ];
-    let c = file::read(to, path, &mut input);
+    let c = file::read(rt, to, path, &mut input)?;
     let len = c.len;
     if c.read {
-        print(to, &input[..len], f, work, lines);
+        print(rt, to, &input[..len], f, work, lines)?;
     }
+    Ok(())
 }
 
 // Prints the page of a form, or the refusal.
-fn print(to: i32, s: &[u8], f: usize, work: &mut [u8], lines: &mut [u8]) {
+fn print(
+    out: &impl Print,
+    to: &impl Print,
+    s: &[u8],
+    f: usize,
+    work: &mut [u8],
+    lines: &mut [u8],
+) -> io::Result<()> {
     let a = page_call(f, work, s, lines);
     let len = a.len;
     let refusal = a.refusal;
     if refusal.number != 0 {
-        refusal::print(to, refusal, false, s.len() > f);
+        refusal::print(to, refusal, false, s.len() > f)?;
     } else if len <= lines.len() {
-        say::text(STDOUT_FILENO, &lines[..len]);
+        say::text(out, &lines[..len])?;
     }
+    Ok(())
 }

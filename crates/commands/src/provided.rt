@@ -2,19 +2,21 @@
 // name starts and ends, and an entry 0 stands before those of each binding.
 use crate::say;
 use ordering::PLACES;
+use std::io;
 
 // Prints the name of an entry after a space.
-pub fn print_entry(to: i32, s: &[u8], entry: usize) {
+pub fn print_entry(to: &impl Print, s: &[u8], entry: usize) -> io::Result<()> {
     let start = entry / PLACES;
     let end = entry % PLACES;
     if start <= end && end <= s.len() {
-        say::text(to, b" ");
-        say::name(to, &s[start..end]);
+        say::text(to, b" ")?;
+        say::name(to, &s[start..end])?;
     }
+    Ok(())
 }
 
 // Prints the names that a binding provides, each after a space.
-pub fn print(to: i32, s: &[u8], given: &[usize], index: usize) {
+pub fn print(to: &impl Print, s: &[u8], given: &[usize], index: usize) -> io::Result<()> {
     let mut bindings = 0;
     let mut some = false;
     let mut k = 0;
@@ -22,12 +24,13 @@ pub fn print(to: i32, s: &[u8], given: &[usize], index: usize) {
         if given[k] == 0 {
             bindings += 1;
         } else if bindings > 0 && bindings - 1 == index {
-            print_entry(to, s, given[k]);
+            print_entry(to, s, given[k])?;
             some = true;
         }
         k += 1;
     }
     if !some {
-        say::text(to, b" no name");
+        say::text(to, b" no name")?;
     }
+    Ok(())
 }

@@ -5,6 +5,7 @@ ghost use Rattle.commands.specs.Refusals.{refusal_words, words_place, words_text
 use crate::say;
 use names::Refusal;
 use names::bytes::put;
+use std::io;
 
 // The most bytes that the words of a refusal take.
 const LINE: usize = 64;
@@ -112,25 +113,25 @@ fn text_of(words: Words, out: &mut [u8; LINE]) -> usize
 }
 
 // The line of a refusal: its number, its words, and its place where one is meant.
-pub fn print(to: i32, refusal: Refusal, above: bool, long: bool) {
+pub fn print(to: &impl Print, refusal: Refusal, above: bool, long: bool) -> io::Result<()> {
     let number = refusal.number;
     let words = words_of(number, above, long);
     let mut out = [0u8; LINE];
     let n = text_of(words, &mut out);
-    say::text(to, b"refused ");
-    say::number(to, number as u64);
-    say::text(to, b": ");
-    say::text(to, &out[..n]);
+    say::text(to, b"refused ")?;
+    say::number(to, number as u64)?;
+    say::text(to, b": ")?;
+    say::text(to, &out[..n])?;
     match place_of(words) {
         Shown::Nothing => {}
         Shown::Offset => {
-            say::text(to, b" at offset ");
-            say::number(to, refusal.place.start);
+            say::text(to, b" at offset ")?;
+            say::number(to, refusal.place.start)?;
         }
         Shown::Location => {
-            say::text(to, b", at location ");
-            say::number(to, refusal.place.start);
+            say::text(to, b", at location ")?;
+            say::number(to, refusal.place.start)?;
         }
     }
-    say::text(to, b"\n");
+    say::text(to, b"\n")
 }

@@ -1,36 +1,36 @@
-// Words and numbers, written to a descriptor. What cannot be written is dropped.
+// Words and numbers, written to an output.
 use outline::page::visible;
+use std::io;
 
 // Writes bytes as they are.
-pub fn text(to: i32, words: &[u8]) {
-    io::write_all(to, words);
+pub fn text(to: &impl Print, words: &[u8]) -> io::Result<()> {
+    to.write_all(words)
 }
 
 // Writes a number in decimal.
-pub fn number(to: i32, n: u64) {
-    io::print_decimal(to, n);
+pub fn number(to: &impl Print, n: u64) -> io::Result<()> {
+    to.print(n)
 }
 
 // Writes a name: bytes that are no visible character as `.`, and an empty name as `(empty)`.
-pub fn name(to: i32, bytes: &[u8]) {
+pub fn name(to: &impl Print, bytes: &[u8]) -> io::Result<()> {
     if bytes.len() == 0 {
-        text(to, b"(empty)");
+        text(to, b"(empty)")?;
     }
-    let mut i = 0;
-    while i < bytes.len() {
-        let shown = visible(bytes[i]);
-        text(to, &[shown; 1]);
-        i += 1;
+    for byte in bytes {
+        let shown = visible(*byte);
+        text(to, &[shown; 1])?;
     }
+    Ok(())
 }
 
 // Says which argument is wrong, what was expected, and what it is.
-pub fn wrong(to: i32, argument: &[u8], expected: &[u8], got: &[u8]) {
-    text(to, b"wrong ");
-    text(to, argument);
-    text(to, b": expected ");
-    text(to, expected);
-    text(to, b", got ");
-    name(to, got);
-    text(to, b"\n");
+pub fn wrong(to: &impl Print, argument: &[u8], expected: &[u8], got: &[u8]) -> io::Result<()> {
+    text(to, b"wrong ")?;
+    text(to, argument)?;
+    text(to, b": expected ")?;
+    text(to, expected)?;
+    text(to, b", got ")?;
+    name(to, got)?;
+    text(to, b"\n")
 }

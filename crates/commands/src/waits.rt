@@ -7,6 +7,7 @@ use crate::provided::print_entry;
 use ordering::needs::body_needs;
 use ordering::provides::providers;
 use ordering::{NEED_LIMIT, PLACES};
+use std::io;
 
 // Whether the name of an entry is among the words of the body at a place: whether the body needs
 // something of a lone binding of that name.
@@ -43,15 +44,14 @@ fn missing(s: &[u8], given: &[usize], k: usize, stuck: u64) -> bool
 }
 
 // Prints the names that the body at a place needs and that only stuck bindings provide.
-pub fn print(to: i32, s: &[u8], given: &[usize], body: usize, stuck: u64)
+pub fn print(to: &impl Print, s: &[u8], given: &[usize], body: usize, stuck: u64) -> io::Result<()>
     requires { Given s.now given.now }
 {
-    let mut k = 0;
-    while k < given.len() {
+    for k in 0..given.len() {
         let e = given[k];
         if e != 0 && missing(s, given, k, stuck) && has_word(s, body, e) {
-            print_entry(to, s, e);
+            print_entry(to, s, e)?;
         }
-        k += 1;
     }
+    Ok(())
 }

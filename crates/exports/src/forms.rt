@@ -1,4 +1,4 @@
-// The calls Whole form, Children only and Single helper, to link.
+// The calls Whole form, Children only and Single helper, answered in numbers.
 ghost use Rattle.std.specs.Prelude.{length};
 ghost use Rattle.walk.specs.Assigns.{AssignsOrdered};
 ghost use Rattle.walk.specs.Calls.{whole_call, children_call, helper_call, whole_visits, children_visits, helper_visits};
@@ -8,8 +8,7 @@ use crate::tell::tell;
 use walk::call::{children_only, single_helper, whole_form};
 
 // Renames a CF and all in it: its args get new names too.
-#[unsafe(no_mangle)]
-pub extern "C" fn rename_whole_form(
+pub fn rename_whole_form(
     f: usize,
     work: &mut [u8],
     counter: u64,
@@ -25,8 +24,7 @@ pub extern "C" fn rename_whole_form(
 }
 
 // Renames what stands in a CF, and keeps its args.
-#[unsafe(no_mangle)]
-pub extern "C" fn rename_children_only(
+pub fn rename_children_only(
     f: usize,
     work: &mut [u8],
     counter: u64,
@@ -42,8 +40,7 @@ pub extern "C" fn rename_children_only(
 }
 
 // Renames an H record and all in it.
-#[unsafe(no_mangle)]
-pub extern "C" fn rename_single_helper(
+pub fn rename_single_helper(
     f: usize,
     work: &mut [u8],
     counter: u64,

@@ -1,4 +1,4 @@
-// The calls for Rust and C to link, as include/rename.h declares them: answers in numbers.
+// The calls as include/rename.h declares them, answered in numbers; `exports_c` has them for C to link.
 //
 // `name` has the call Name, `order` the call Order, `forms` the calls Whole form, Children only and
 // Single helper, `page` the call Page, `read` reading alone, and `tell` how an answer is told.

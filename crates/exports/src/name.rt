@@ -1,4 +1,4 @@
-// The call Name, to link.
+// The call Name, answered in numbers.
 ghost use Rattle.std.specs.Prelude.{◌≡◌};
 ghost use Rattle.names.specs.CallAnswer.{name_call};
 ghost use Rattle.exports.specs.Linked.{answer_in};
@@ -7,8 +7,7 @@ use crate::tell::tell;
 use names::call::name_call;
 
 // Writes the name that `gensym` makes at the front of the result buffer.
-#[unsafe(no_mangle)]
-pub extern "C" fn rename_name(name: &[u8], counter: u64, res: &mut [u8], told: &mut [u64; 4]) -> u32
+pub fn rename_name(name: &[u8], counter: u64, res: &mut [u8], told: &mut [u64; 4]) -> u32
     ensures { (answer_in result told.new, res.new) ≡ name_call name.now counter res.old }
 {
     let a = name_call(name, counter, res);

@@ -1,4 +1,4 @@
-// The call Order, to link.
+// The call Order, answered in numbers.
 ghost use Rattle.ordering.specs.OrderCall.{order_call};
 ghost use Rattle.ordering.specs.OrderMeans.{OrderMeans};
 ghost use Rattle.exports.specs.Linked.{answer_in, Hands};
@@ -8,8 +8,7 @@ use ordering::call::order_call;
 
 // Writes the order of an assign's bindings at the front of the result buffer, or, at a deadlock,
 // the stuck ones.
-#[unsafe(no_mangle)]
-pub extern "C" fn rename_order(
+pub fn rename_order(
     f: usize,
     work: &mut [u8],
     counter: u64,

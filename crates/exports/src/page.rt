@@ -1,4 +1,4 @@
-// The call Page, to link.
+// The call Page, answered in numbers.
 ghost use Rattle.std.specs.Prelude.{◌≡◌, length};
 ghost use Rattle.outline.specs.Page.{page_call};
 ghost use Rattle.exports.specs.Linked.{answer_in};
@@ -7,8 +7,7 @@ use crate::tell::tell;
 use outline::page::page_call;
 
 // Writes the page of a CF at the front of the result buffer. There is no counter.
-#[unsafe(no_mangle)]
-pub extern "C" fn rename_page(
+pub fn rename_page(
     f: usize,
     work: &mut [u8],
     input: &[u8],

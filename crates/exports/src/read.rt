@@ -1,4 +1,4 @@
-// Reading alone, to link.
+// Reading alone, answered in numbers.
 ghost use Rattle.std.specs.Prelude.{◌≡◌};
 ghost use Rattle.names.specs.Refusals.{place_at, refusing};
 ghost use Rattle.exports.specs.Linked.{read_as, read_call};
@@ -32,8 +32,7 @@ fn read_kind(kind: u8, f: usize, input: &[u8]) -> Refusal
 }
 
 // Reads an input: the refusal's number, or 0, and its place.
-#[unsafe(no_mangle)]
-pub extern "C" fn rename_read(kind: u8, input: &[u8], f: usize, place: &mut u64) -> u32
+pub fn rename_read(kind: u8, input: &[u8], f: usize, place: &mut u64) -> u32
     ensures { refusing result (place_at place.new) ≡ read_call kind f input.now }
 {
     let refusal = read_kind(kind, f, input);

@@ -3,13 +3,15 @@
 #![tactic(auto)]
 
 mod arguments;
+mod given;
 mod renaming;
 mod task;
 mod usage;
 
-use libc::STDERR_FILENO;
+use given::{ARGUMENT, argument};
 use names::bytes::same;
 use renaming::Call;
+use std::io;
 use task::Asked;
 
 // What the first argument asks for.
@@ -49,22 +51,23 @@ fn asked_by(word: &[u8]) -> Command {
 }
 
 // Says which commands there are.
-fn unknown(word: &[u8]) {
+fn unknown(err: &impl Print, word: &[u8]) -> io::Result<()> {
     if word.len() > 0 {
-        commands::say::wrong(STDERR_FILENO, b"command", b"one of those below", word);
+        commands::say::wrong(err, b"command", b"one of those below", word)?;
     }
-    usage::print();
+    usage::print(err)
 }
 
 // Runs the command that the first argument names.
-fn main() {
-    let mut word = io::buffer();
-    let n = os::arg(1, &mut word);
+fn main(rt: HostRuntime) -> io::Result<()> {
+    let err = rt.stderr();
+    let mut word = [0u8; ARGUMENT];
+    let n = argument(&rt, 1, &mut word);
     match asked_by(&word[..n]) {
-        Command::Name => arguments::name(),
-        Command::Check => arguments::check(),
-        Command::OfFile(asked) => arguments::of_file(asked),
-        Command::Renaming(call) => arguments::renaming(call),
-        Command::Unknown => unknown(&word[..n]),
+        Command::Name => arguments::name(&rt, &err),
+        Command::Check => arguments::check(&rt, &err),
+        Command::OfFile(asked) => arguments::of_file(&rt, &err, asked),
+        Command::Renaming(call) => arguments::renaming(&rt, &err, call),
+        Command::Unknown => unknown(&err, &word[..n]),
     }
 }

@@ -1,8 +1,11 @@
 // `rename whole|children|helper FILE F COUNTER OUT`: the calls that rename a record.
+use crate::given::{ARGUMENT, argument};
 use commands::{MOST_READ, WORK, file, refusal, say};
-use libc::{STDERR_FILENO, STDOUT_FILENO};
 use names::{Answer, MAX_COUNTER};
 use records::MOST_LONGEST;
+use std::env::Env;
+use std::io;
+use std::rt::Files;
 use walk::call::{children_only, single_helper, whole_form};
 
 // Which of the three.
@@ -14,37 +17,55 @@ pub enum Call {
 }
 
 // Reads FILE and renames its record.
-pub fn read(call: Call, path: &[u8], f: usize, counter: u64, work: &mut [u8; WORK]) {
+pub fn read(
+    rt: &(impl Env + Files + Print),
+    err: &impl Print,
+    call: Call,
+    path: &[u8],
+    f: usize,
+    counter: u64,
+    work: &mut [u8; WORK],
+) -> io::Result<()> {
     let mut input = [0u8; MOST_READ];
-    let c = file::read(STDERR_FILENO, path, &mut input);
+    let c = file::read(rt, err, path, &mut input)?;
     let len = c.len;
     if c.read {
-        rename(call, &input[..len], f, counter, work);
+        rename(rt, err, call, &input[..len], f, counter, work)?;
     }
+    Ok(())
 }
 
 // Writes bytes to OUT, and answers whether they were written.
-fn write(bytes: &[u8]) -> bool {
-    let mut out = io::buffer();
-    let n = os::arg(5, &mut out);
-    file::write(STDERR_FILENO, &out[..n], bytes)
+fn write(rt: &(impl Env + Files), err: &impl Print, bytes: &[u8]) -> io::Result<bool> {
+    let mut out = [0u8; ARGUMENT];
+    let n = argument(rt, 5, &mut out);
+    file::write(rt, err, &out[..n], bytes)
 }
 
 // Renames a record, writes it to OUT, and prints its length and the new counter, or the refusal.
-fn rename(call: Call, s: &[u8], f: usize, counter: u64, work: &mut [u8; WORK]) {
-    let mut result = [0u8; MOST_LONGEST];
-    let a = answer(call, f, work, counter, s, &mut result);
+fn rename(
+    rt: &(impl Env + Files + Print),
+    err: &impl Print,
+    call: Call,
+    s: &[u8],
+    f: usize,
+    counter: u64,
+    work: &mut [u8; WORK],
+) -> io::Result<()> {
+    let mut renamed = [0u8; MOST_LONGEST];
+    let a = answer(call, f, work, counter, s, &mut renamed);
     let len = a.len;
     let refusal = a.refusal;
     if refusal.number != 0 {
-        refusal::print(STDERR_FILENO, refusal, counter > MAX_COUNTER, s.len() > f);
-    } else if len <= MOST_LONGEST && write(&result[..len]) {
-        say::text(STDOUT_FILENO, b"length ");
-        say::number(STDOUT_FILENO, len as u64);
-        say::text(STDOUT_FILENO, b"\ncounter ");
-        say::number(STDOUT_FILENO, a.counter);
-        say::text(STDOUT_FILENO, b"\n");
+        refusal::print(err, refusal, counter > MAX_COUNTER, s.len() > f)?;
+    } else if len <= MOST_LONGEST && write(rt, err, &renamed[..len])? {
+        say::text(rt, b"length ")?;
+        say::number(rt, len as u64)?;
+        say::text(rt, b"\ncounter ")?;
+        say::number(rt, a.counter)?;
+        say::text(rt, b"\n")?;
     }
+    Ok(())
 }
 
 // What the call answers.

@@ -1,10 +1,13 @@
 // What a command asks of the record in FILE.
+use crate::given::{ARGUMENT, argument};
 use crate::renaming;
 use crate::renaming::Call;
 use commands::WORK;
 use commands::order::order;
 use commands::page::page;
-use libc::STDERR_FILENO;
+use std::env::Env;
+use std::io;
+use std::rt::Files;
 
 // An order, a page, or a renaming.
 #[derive(Clone, Copy)]
@@ -16,13 +19,19 @@ pub enum Asked {
 
 // Does with the record in FILE what is asked. Work memory is lent as an array, so that no proof has to
 // count its bytes, and here alone, so that the stack holds it once.
-pub fn run(asked: Asked, f: usize, counter: u64) {
-    let mut path = io::buffer();
-    let n = os::arg(2, &mut path);
+pub fn run(
+    rt: &(impl Env + Files + Print),
+    err: &impl Print,
+    asked: Asked,
+    f: usize,
+    counter: u64,
+) -> io::Result<()> {
+    let mut path = [0u8; ARGUMENT];
+    let n = argument(rt, 2, &mut path);
     let mut work = [0u8; WORK];
     match asked {
-        Asked::Order => order(STDERR_FILENO, &path[..n], f, &mut work),
-        Asked::Page => page(STDERR_FILENO, &path[..n], f, &mut work),
-        Asked::Renaming(call) => renaming::read(call, &path[..n], f, counter, &mut work),
+        Asked::Order => order(rt, err, &path[..n], f, &mut work),
+        Asked::Page => page(rt, err, &path[..n], f, &mut work),
+        Asked::Renaming(call) => renaming::read(rt, err, call, &path[..n], f, counter, &mut work),
     }
 }

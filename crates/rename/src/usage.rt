@@ -1,18 +1,15 @@
 // How the program is used.
 use commands::say;
-use libc::STDERR_FILENO;
+use std::io;
 
 // One line for each command.
-pub fn print() {
-    say::text(STDERR_FILENO, b"usage: rename name NAME COUNTER\n");
+pub fn print(err: &impl Print) -> io::Result<()> {
+    say::text(err, b"usage: rename name NAME COUNTER\n")?;
+    say::text(err, b"       rename check form|helper|assign FILE F\n")?;
+    say::text(err, b"       rename order FILE F\n")?;
+    say::text(err, b"       rename page FILE F\n")?;
     say::text(
-        STDERR_FILENO,
-        b"       rename check form|helper|assign FILE F\n",
-    );
-    say::text(STDERR_FILENO, b"       rename order FILE F\n");
-    say::text(STDERR_FILENO, b"       rename page FILE F\n");
-    say::text(
-        STDERR_FILENO,
+        err,
         b"       rename whole|children|helper FILE F COUNTER OUT\n",
-    );
+    )
 }

@@ -13,11 +13,12 @@ ghost use Rattle.replays.specs.declared.Verdict.TheVariants.{Agrees};
 ghost use Rattle.replay_calls.specs.CallCases.{case_from, work_of, HeadAgrees};
 
 use calls::{CALLS, Case, agrees};
-use libc::STDIN_FILENO;
 use names::bytes::number;
 use names::refusals::{place_at, refusing};
 use records::{MOST_LONGEST, WORK_FACTOR};
-use replays::{Verdict, reads};
+use replays::{Verdict, read_full, reads};
+use std::io;
+use std::io::Read;
 
 // The bytes of a case before its input and result.
 const HEAD: usize = 40;
@@ -63,7 +64,7 @@ fn judged(head: &[u8; HEAD], work: &mut [u8], mem: &mut [u8], parts: &[u8], res:
         return Verdict::Broken;
     }
     let buffer = number(head, 34, 2);
-    let input = &parts[..result];
+    let input = &parts[..res];
     replays::judged(agrees(c, work, input, &parts[res..], mem, buffer))
 }
 
@@ -84,53 +85,86 @@ fn lends(head: &[u8; HEAD], work: &mut [u8], mem: &mut [u8], parts: &[u8], res: 
 }
 
 // Reads what follows the head of a case, and has the call answer it.
-fn rest(head: &[u8; HEAD], work: &mut [u8], mem: &mut [u8], buf: &mut [u8]) -> Verdict {
+fn rest(
+    stdin: &mut impl Read,
+    head: &[u8; HEAD],
+    work: &mut [u8],
+    mem: &mut [u8],
+    buf: &mut [u8],
+) -> io::Result<Verdict> {
     let result = number(head, 36, 2);
     let end = result + number(head, 38, 2);
     if end > buf.len() {
-        return Verdict::CutOff;
+        return Ok(Verdict::CutOff);
     }
-    if !reads(&mut buf[..end]) {
-        return Verdict::CutOff;
+    if !reads(stdin, &mut buf[..end])? {
+        return Ok(Verdict::CutOff);
     }
-    lends(head, work, mem, &buf[..end], result)
+    Ok(lends(head, work, mem, &buf[..end], result))
 }
 
 // Reads the next case and has the call answer it.
-fn next(work: &mut [u8], mem: &mut [u8], buf: &mut [u8]) -> Verdict {
+fn next(
+    stdin: &mut impl Read,
+    work: &mut [u8],
+    mem: &mut [u8],
+    buf: &mut [u8],
+) -> io::Result<Verdict> {
     let mut head = [0u8; HEAD];
-    let got = io::read_full(STDIN_FILENO, &mut head);
+    let got = read_full(stdin, &mut head)?;
     if got == 0 {
-        return Verdict::Ended;
+        return Ok(Verdict::Ended);
     }
     if got < HEAD {
-        return Verdict::CutOff;
+        return Ok(Verdict::CutOff);
     }
-    rest(&head, work, mem, buf)
+    rest(stdin, &head, work, mem, buf)
 }
 
 // Replays the case after `done` others, and answers whether to go on.
-fn goes_on(work: &mut [u8], mem: &mut [u8], buf: &mut [u8], done: u64) -> bool {
-    replays::goes_on(next(work, mem, buf), done, b" call")
+fn goes_on(
+    rt: &impl Print,
+    stdin: &mut impl Read,
+    work: &mut [u8],
+    mem: &mut [u8],
+    buf: &mut [u8],
+    done: u64,
+) -> io::Result<bool> {
+    let outcome = next(stdin, work, mem, buf)?;
+    replays::goes_on(rt, outcome, done, b" call")
 }
 
 // A proved loop has to end, and nothing says that the input does. So the loop counts, up to a
 // number that no run reaches.
-fn replay(work: &mut [u8], mem: &mut [u8], buf: &mut [u8]) {
-    let mut done = 0;
-    while done < u64::MAX && goes_on(work, mem, buf, done) {
-        done += 1;
+fn replay(
+    rt: &impl Print,
+    stdin: &mut impl Read,
+    work: &mut [u8],
+    mem: &mut [u8],
+    buf: &mut [u8],
+) -> io::Result<()> {
+    for done in 0..u64::MAX {
+        if !goes_on(rt, stdin, work, mem, buf, done)? {
+            break;
+        }
     }
+    Ok(())
 }
 
 // The buffers are lent as arrays, so that no proof has to count their bytes.
-fn run(work: &mut [u8; WORK], mem: &mut [u8; MEMORY], buf: &mut [u8; PARTS]) {
-    replay(work, mem, buf);
+fn run(
+    rt: &impl Print,
+    stdin: &mut impl Read,
+    work: &mut [u8; WORK],
+    mem: &mut [u8; MEMORY],
+    buf: &mut [u8; PARTS],
+) -> io::Result<()> {
+    replay(rt, stdin, work, mem, buf)
 }
 
-fn main() {
+fn main(rt: HostRuntime) -> io::Result<()> {
     let mut work = [0u8; WORK];
     let mut mem = [0u8; MEMORY];
     let mut buf = [0u8; PARTS];
-    run(&mut work, &mut mem, &mut buf);
+    run(&rt, &mut rt.stdin(), &mut work, &mut mem, &mut buf)
 }

@@ -12,13 +12,14 @@ ghost use Rattle.std.specs.Prelude.{◌≡◌, length};
 ghost use Rattle.replays.specs.declared.Verdict.TheVariants.{Agrees};
 ghost use Rattle.replay_orders.specs.Orders.{case_from, HeadAgrees};
 
-use libc::STDIN_FILENO;
 use names::bytes::number;
 use names::refusals::{place_at, refusing};
 use order::{Case, agrees};
 use ordering::BINDING_LIMIT;
 use records::{MOST_LONGEST, WORK_FACTOR};
-use replays::{Verdict, reads};
+use replays::{Verdict, read_full, reads};
+use std::io;
+use std::io::Read;
 
 // The bytes of a case before those written and the input.
 const HEAD: usize = 20;
@@ -28,6 +29,9 @@ const WORK: usize = WORK_FACTOR * MOST_LONGEST;
 
 // The most bytes that a length of one byte can announce.
 const MOST_RESULT: usize = 255;
+
+// More bytes than a length of two bytes can announce.
+const LONGEST: usize = 65536;
 
 // What a case gives and must get.
 fn case_of(head: &[u8; HEAD]) -> Case
@@ -54,60 +58,80 @@ fn judged(head: &[u8; HEAD], work: &mut [u8], wanted: &[u8], input: &[u8]) -> Ve
 }
 
 // Reads what follows the head of a case, and has the call answer it.
-fn rest(head: &[u8; HEAD], work: &mut [u8], wanted: &mut [u8], buf: &mut [u8]) -> Verdict {
+fn rest(
+    stdin: &mut impl Read,
+    head: &[u8; HEAD],
+    work: &mut [u8],
+    wanted: &mut [u8],
+    buf: &mut [u8],
+) -> io::Result<Verdict> {
     let count = number(head, 17, 1);
     let len = number(head, 18, 2);
     if count > wanted.len() {
-        return Verdict::CutOff;
+        return Ok(Verdict::CutOff);
     }
     if len > buf.len() {
-        return Verdict::CutOff;
+        return Ok(Verdict::CutOff);
     }
-    if !reads(&mut wanted[..count]) {
-        return Verdict::CutOff;
+    if !reads(stdin, &mut wanted[..count])? {
+        return Ok(Verdict::CutOff);
     }
-    if !reads(&mut buf[..len]) {
-        return Verdict::CutOff;
+    if !reads(stdin, &mut buf[..len])? {
+        return Ok(Verdict::CutOff);
     }
-    judged(head, work, &wanted[..count], &buf[..len])
+    Ok(judged(head, work, &wanted[..count], &buf[..len]))
 }
 
 // Reads the next case and has the call answer it.
-fn next(work: &mut [u8], buf: &mut [u8]) -> Verdict {
+fn next(stdin: &mut impl Read, work: &mut [u8], buf: &mut [u8]) -> io::Result<Verdict> {
     let mut head = [0u8; HEAD];
-    let got = io::read_full(STDIN_FILENO, &mut head);
+    let got = read_full(stdin, &mut head)?;
     if got == 0 {
-        return Verdict::Ended;
+        return Ok(Verdict::Ended);
     }
     if got < HEAD {
-        return Verdict::CutOff;
+        return Ok(Verdict::CutOff);
     }
     let mut wanted = [0u8; BINDING_LIMIT];
-    rest(&head, work, &mut wanted, buf)
+    rest(stdin, &head, work, &mut wanted, buf)
 }
 
 // Replays the case after `done` others, and answers whether to go on.
-fn goes_on(work: &mut [u8], buf: &mut [u8], done: u64) -> bool {
-    replays::goes_on(next(work, buf), done, b" order")
+fn goes_on(
+    rt: &impl Print,
+    stdin: &mut impl Read,
+    work: &mut [u8],
+    buf: &mut [u8],
+    done: u64,
+) -> io::Result<bool> {
+    let outcome = next(stdin, work, buf)?;
+    replays::goes_on(rt, outcome, done, b" order")
 }
 
 // A proved loop has to end, and nothing says that the input does. So the loop counts, up to a
 // number that no run reaches.
-fn replay(work: &mut [u8], buf: &mut [u8]) {
-    let mut done = 0;
-    while done < u64::MAX && goes_on(work, buf, done) {
-        done += 1;
+fn replay(
+    rt: &impl Print,
+    stdin: &mut impl Read,
+    work: &mut [u8],
+    buf: &mut [u8],
+) -> io::Result<()> {
+    for done in 0..u64::MAX {
+        if !goes_on(rt, stdin, work, buf, done)? {
+            break;
+        }
     }
+    Ok(())
 }
 
-// The buffer is as long as the longest input that a length of two bytes can announce.
-fn run(work: &mut [u8; WORK]) {
-    let mut buf = io::large_buffer();
-    replay(work, &mut buf);
+// The buffer holds the longest input that a length of two bytes can announce.
+fn run(rt: &impl Print, stdin: &mut impl Read, work: &mut [u8; WORK]) -> io::Result<()> {
+    let mut buf = [0u8; LONGEST];
+    replay(rt, stdin, work, &mut buf)
 }
 
 // Work memory is lent as an array, so that no proof has to count its bytes.
-fn main() {
+fn main(rt: HostRuntime) -> io::Result<()> {
     let mut work = [0u8; WORK];
-    run(&mut work);
+    run(&rt, &mut rt.stdin(), &mut work)
 }

@@ -6,64 +6,71 @@
 
 mod reader;
 
-ghost use Rattle.std.specs.Prelude.{◌≡◌};
+ghost use Rattle.std.specs.Prelude.{◌≡◌, IfOk};
 ghost use Rattle.replays.specs.declared.Verdict.TheVariants.{Agrees};
 ghost use Rattle.replay_reads.specs.Reading.{ReadAgrees};
 
-use libc::STDIN_FILENO;
 use names::bytes::number;
 use reader::agrees;
-use replays::{Verdict, reads};
+use replays::{Verdict, read_full, reads};
+use std::io;
+use std::io::Read;
+
+// More bytes than a length of two bytes can announce.
+const LONGEST: usize = 65536;
 
 // Reads the input of a case into a buffer of its length, and has the reader answer it.
-fn judged(head: &[u8; 8], input: &mut [u8]) -> Verdict
-    ensures { result ≡ Agrees → ReadAgrees head.now input.new }
+fn judged(stdin: &mut impl Read, head: &[u8; 8], input: &mut [u8]) -> io::Result<Verdict>
+    ensures { IfOk result (λ verdict. verdict ≡ Agrees → ReadAgrees head.now input.new) }
 {
-    if !reads(input) {
-        return Verdict::CutOff;
+    if !reads(stdin, input)? {
+        return Ok(Verdict::CutOff);
     }
-    replays::judged(agrees(
+    Ok(replays::judged(agrees(
         number(head, 0, 1) as u8,
         number(head, 2, 2),
         number(head, 1, 1) as u32,
         number(head, 4, 2) as u64,
         input,
-    ))
+    )))
 }
 
 // Reads the next case and has the reader answer it.
-fn next(buf: &mut [u8]) -> Verdict {
+fn next(stdin: &mut impl Read, buf: &mut [u8]) -> io::Result<Verdict> {
     let mut head = [0; 8];
-    let got = io::read_full(STDIN_FILENO, &mut head);
+    let got = read_full(stdin, &mut head)?;
     if got == 0 {
-        return Verdict::Ended;
+        return Ok(Verdict::Ended);
     }
     if got < 8 {
-        return Verdict::CutOff;
+        return Ok(Verdict::CutOff);
     }
     let len = number(&head, 6, 2);
     if len > buf.len() {
-        return Verdict::CutOff;
+        return Ok(Verdict::CutOff);
     }
-    judged(&head, &mut buf[..len])
+    judged(stdin, &head, &mut buf[..len])
 }
 
 // Replays the case after `done` others, and answers whether to go on.
-fn goes_on(buf: &mut [u8], done: u64) -> bool {
-    replays::goes_on(next(buf), done, b" reading")
+fn goes_on(rt: &impl Print, stdin: &mut impl Read, buf: &mut [u8], done: u64) -> io::Result<bool> {
+    let outcome = next(stdin, buf)?;
+    replays::goes_on(rt, outcome, done, b" reading")
 }
 
 // A proved loop has to end, and nothing says that the input does. So the loop counts, up to a
 // number that no run reaches.
-fn replay(buf: &mut [u8]) {
-    let mut done = 0;
-    while done < u64::MAX && goes_on(buf, done) {
-        done += 1;
+fn replay(rt: &impl Print, stdin: &mut impl Read, buf: &mut [u8]) -> io::Result<()> {
+    for done in 0..u64::MAX {
+        if !goes_on(rt, stdin, buf, done)? {
+            break;
+        }
     }
+    Ok(())
 }
 
-// The buffer is as long as the longest input that a length of two bytes can announce.
-fn main() {
-    let mut buf = io::large_buffer();
-    replay(&mut buf);
+// The buffer holds the longest input that a length of two bytes can announce.
+fn main(rt: HostRuntime) -> io::Result<()> {
+    let mut buf = [0u8; LONGEST];
+    replay(&rt, &mut rt.stdin(), &mut buf)
 }

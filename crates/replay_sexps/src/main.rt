@@ -13,11 +13,12 @@ mod sexps;
 
 ghost use Rattle.std.specs.Prelude.{◌≤◌, length};
 
-use libc::STDIN_FILENO;
 use names::bytes::number;
 use records::MOST_LONGEST;
-use replays::{Verdict, reads};
+use replays::{Verdict, read_full, reads};
 use sexps::{Case, FACTOR, agrees};
+use std::io;
+use std::io::Read;
 
 // The bytes of a case before its map, result and input.
 const HEAD: usize = 29;
@@ -45,59 +46,83 @@ fn case_of(head: &[u8; HEAD]) -> Case {
 fn judged(head: &[u8; HEAD], mem: &mut [u8], parts: &[u8], res: usize, input: usize) -> Verdict
     requires { (res ≤ input) × (input ≤ length parts.now) }
 {
-    let map = &parts[..result];
+    let map = &parts[..res];
     let wanted = &parts[res..input];
     replays::judged(agrees(case_of(head), mem, &parts[input..], map, wanted))
 }
 
 // Reads what follows the head of a case, and has the calls answer it.
-fn rest(head: &[u8; HEAD], mem: &mut [u8], buf: &mut [u8]) -> Verdict {
+fn rest(
+    stdin: &mut impl Read,
+    head: &[u8; HEAD],
+    mem: &mut [u8],
+    buf: &mut [u8],
+) -> io::Result<Verdict> {
     let result = number(head, 23, 2);
     let input = result + number(head, 25, 2);
     let end = input + number(head, 27, 2);
     if end > buf.len() {
-        return Verdict::CutOff;
+        return Ok(Verdict::CutOff);
     }
-    if !reads(&mut buf[..end]) {
-        return Verdict::CutOff;
+    if !reads(stdin, &mut buf[..end])? {
+        return Ok(Verdict::CutOff);
     }
-    judged(head, mem, &buf[..end], result, input)
+    Ok(judged(head, mem, &buf[..end], result, input))
 }
 
 // Reads the next case and has the calls answer it.
-fn next(mem: &mut [u8], buf: &mut [u8]) -> Verdict {
+fn next(stdin: &mut impl Read, mem: &mut [u8], buf: &mut [u8]) -> io::Result<Verdict> {
     let mut head = [0u8; HEAD];
-    let got = io::read_full(STDIN_FILENO, &mut head);
+    let got = read_full(stdin, &mut head)?;
     if got == 0 {
-        return Verdict::Ended;
+        return Ok(Verdict::Ended);
     }
     if got < HEAD {
-        return Verdict::CutOff;
+        return Ok(Verdict::CutOff);
     }
-    rest(&head, mem, buf)
+    rest(stdin, &head, mem, buf)
 }
 
 // Replays the case after `done` others, and answers whether to go on.
-fn goes_on(mem: &mut [u8], buf: &mut [u8], done: u64) -> bool {
-    replays::goes_on(next(mem, buf), done, b" S record")
+fn goes_on(
+    rt: &impl Print,
+    stdin: &mut impl Read,
+    mem: &mut [u8],
+    buf: &mut [u8],
+    done: u64,
+) -> io::Result<bool> {
+    let outcome = next(stdin, mem, buf)?;
+    replays::goes_on(rt, outcome, done, b" S record")
 }
 
 // A proved loop has to end, and nothing says that the input does. So the loop counts, up to a
 // number that no run reaches.
-fn replay(mem: &mut [u8], buf: &mut [u8]) {
-    let mut done = 0;
-    while done < u64::MAX && goes_on(mem, buf, done) {
-        done += 1;
+fn replay(
+    rt: &impl Print,
+    stdin: &mut impl Read,
+    mem: &mut [u8],
+    buf: &mut [u8],
+) -> io::Result<()> {
+    for done in 0..u64::MAX {
+        if !goes_on(rt, stdin, mem, buf, done)? {
+            break;
+        }
     }
+    Ok(())
 }
 
 // Both buffers are lent as arrays, so that no proof has to count their bytes.
-fn run(mem: &mut [u8; MEMORY], buf: &mut [u8; PARTS]) {
-    replay(mem, buf);
+fn run(
+    rt: &impl Print,
+    stdin: &mut impl Read,
+    mem: &mut [u8; MEMORY],
+    buf: &mut [u8; PARTS],
+) -> io::Result<()> {
+    replay(rt, stdin, mem, buf)
 }
 
-fn main() {
+fn main(rt: HostRuntime) -> io::Result<()> {
     let mut mem = [0u8; MEMORY];
     let mut buf = [0u8; PARTS];
-    run(&mut mem, &mut buf);
+    run(&rt, &mut rt.stdin(), &mut mem, &mut buf)
 }

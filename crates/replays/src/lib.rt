@@ -2,11 +2,12 @@
 // memory that is filled before a call, and refusals compared.
 #![tactic(auto)]
 
-ghost use Rattle.std.specs.Prelude.{◌≡◌, length};
+ghost use Rattle.std.specs.Prelude.{◌≡◌, ◌≤◌, length, IfOk};
 ghost use Rattle.replays.specs.Judging.{Decides, filling, judged_as, goes_further};
 
-use libc::{STDIN_FILENO, STDOUT_FILENO};
 use names::Refusal;
+use std::io;
+use std::io::Read;
 
 // What memory is filled with.
 const FILL: u8 = 7;
@@ -21,9 +22,24 @@ pub enum Verdict {
     Ended,
 }
 
+// Reads until a buffer is full or the input ends, and answers how many bytes were put at its front.
+pub fn read_full(stdin: &mut impl Read, buf: &mut [u8]) -> io::Result<usize>
+    ensures { IfOk result (λ done. done ≤ length buf.new) }
+{
+    let mut done = 0;
+    while done < buf.len() {
+        let n = stdin.read(&mut buf[done..])?;
+        if n == 0 {
+            return Ok(done);
+        }
+        done += n;
+    }
+    Ok(done)
+}
+
 // Whether the bytes that fill a buffer can be read.
-pub fn reads(buf: &mut [u8]) -> bool {
-    io::read_full(STDIN_FILENO, buf) == buf.len()
+pub fn reads(stdin: &mut impl Read, buf: &mut [u8]) -> io::Result<bool> {
+    Ok(read_full(stdin, buf)? == buf.len())
 }
 
 // Agrees, or differs.
@@ -38,35 +54,35 @@ pub fn judged(agrees: bool) -> Verdict
 }
 
 // Says of the case after `done` others of a kind what is wrong with it.
-fn fault(done: u64, kind: &[u8], what: &[u8]) {
-    io::write_all(STDOUT_FILENO, b"after ");
-    io::print_decimal(STDOUT_FILENO, done);
-    io::write_all(STDOUT_FILENO, kind);
-    io::write_all(STDOUT_FILENO, b" cases that agree, the next ");
-    io::write_all(STDOUT_FILENO, what);
+fn fault(rt: &impl Print, done: u64, kind: &[u8], what: &[u8]) -> io::Result<()> {
+    rt.write_all(b"after ")?;
+    rt.print(done)?;
+    rt.write_all(kind)?;
+    rt.write_all(b" cases that agree, the next ")?;
+    rt.write_all(what)
 }
 
 // Says that all cases of a kind agree.
-fn all_agree(done: u64, kind: &[u8]) {
-    io::print_decimal(STDOUT_FILENO, done);
-    io::write_all(STDOUT_FILENO, kind);
-    io::write_all(STDOUT_FILENO, b" cases agree\n");
+fn all_agree(rt: &impl Print, done: u64, kind: &[u8]) -> io::Result<()> {
+    rt.print(done)?;
+    rt.write_all(kind)?;
+    rt.write_all(b" cases agree\n")
 }
 
 // Says what came of the case after `done` others of a kind, and answers whether to go on.
-pub fn goes_on(outcome: Verdict, done: u64, kind: &[u8]) -> bool
-    ensures { result ≡ goes_further outcome }
+pub fn goes_on(rt: &impl Print, outcome: Verdict, done: u64, kind: &[u8]) -> io::Result<bool>
+    ensures { IfOk result (λ further. further ≡ goes_further outcome) }
 {
     match outcome {
         Verdict::Agrees => {
-            return true;
+            return Ok(true);
         }
-        Verdict::Ended => all_agree(done, kind),
-        Verdict::Differs => fault(done, kind, b"does not\n"),
-        Verdict::CutOff => fault(done, kind, b"is cut off\n"),
-        Verdict::Broken => fault(done, kind, b"is broken\n"),
+        Verdict::Ended => all_agree(rt, done, kind)?,
+        Verdict::Differs => fault(rt, done, kind, b"does not\n")?,
+        Verdict::CutOff => fault(rt, done, kind, b"is cut off\n")?,
+        Verdict::Broken => fault(rt, done, kind, b"is broken\n")?,
     }
-    false
+    Ok(false)
 }
 
 // Fills memory.

@@ -66,7 +66,7 @@ piece_at [] i h a = absurd (not-suc-le-zero h)
 piece_at {q = q} (b ∷ bs) zero h a = at_place (q + 0) (omega arith) (at_left (binding_bytes b) (joined binding_bytes bs) a)
 piece_at {q = q} (b ∷ bs) (suc i) h a =
     at_place (q + length (binding_bytes b ++ joined binding_bytes (take i bs))) (omega (arith, length-append (binding_bytes b) (joined binding_bytes (take i bs))))
-    (piece_at bs i (le_of_suc-le-suc h) (at_right (binding_bytes b) (joined binding_bytes bs) a))
+    (piece_at {q = q + length (binding_bytes b)} bs i (le_of_suc-le-suc h) (at_right (binding_bytes b) (joined binding_bytes bs) a))
 
 -- bindings up to one are no longer than all
 pub piece_within : (bs : List Binding) (i : ℕ) → i ≤ length bs → length (joined binding_bytes (take i bs)) ≤ length (joined binding_bytes bs)

@@ -109,7 +109,7 @@ unique_bindings (b ∷ bs) [] v w e x y = absurd (omega arith)
 unique_bindings {xs} {q} (b ∷ bs) (c ∷ cs) v w e x y =
     let s = unique_first binding_bytes unique_binding b c (joined binding_bytes bs) (joined binding_bytes cs) v.0 w.0 x y in
     let h = s.0 in
-    let r = unique_bindings bs cs v.1 w.1 (omega arith) s.1 s.2 in
+    let r = unique_bindings {q = q + length (binding_bytes b)} bs cs v.1 w.1 (omega arith) s.1 s.2 in
     cc
 
 -- one map at most
