@@ -6,7 +6,7 @@ use Rattle.ordering.proofs.Bound.{found_none, next_few, next_body, found_step, f
 use Rattle.ordering.proofs.assign.find_names.Goals as goal
 
 pub loop-j-init : goal.loop-j-init
-loop-j-init c =  (omega arith, refl, refl, λ bs b. found_none bs b.there)
+loop-j-init c = (omega arith, refl, refl, λ bs b. found_none bs b.there)
 
 pub binding_names-r-requires : goal.binding_names-r-requires
 binding_names-r-requires c =

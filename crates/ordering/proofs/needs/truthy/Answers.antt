@@ -22,19 +22,19 @@ inside : (c : goal.In-Integer) → BytesIn (length c.args.s.now) c.in-Integer.b
 inside c = leaf_places (leaf c.in-Integer.is) c.sexp_view-v.ensures.places
 
 pub slice_bounds-all_zero-count : goal.slice_bounds-all_zero-count
-slice_bounds-all_zero-count c =  (inside c).forward
+slice_bounds-all_zero-count c = (inside c).forward
 
 pub slice_bounds-all_zero-end : goal.slice_bounds-all_zero-end
-slice_bounds-all_zero-end c =  omega (arith, (inside c).within)
+slice_bounds-all_zero-end c = omega (arith, (inside c).within)
 
 pub returns-in-Nil : goal.returns-in-Nil
-returns-in-Nil c t w k =  nil_truth t w k (rw c.in-Nil.is at c.sexp_view-v.ensures)
+returns-in-Nil c t w k = nil_truth t w k (rw c.in-Nil.is at c.sexp_view-v.ensures)
 
 pub returns-in-Pair : goal.returns-in-Pair
-returns-in-Pair c t w k =  pair_truth t w k (rw c.in-Pair.is at c.sexp_view-v.ensures)
+returns-in-Pair c t w k = pair_truth t w k (rw c.in-Pair.is at c.sexp_view-v.ensures)
 
 pub returns-in-Unknown : goal.returns-in-Unknown
-returns-in-Unknown c t w k =  no_truth t w k (rw c.in-Unknown.is at c.sexp_view-v.ensures)
+returns-in-Unknown c t w k = no_truth t w k (rw c.in-Unknown.is at c.sexp_view-v.ensures)
 
 pub returns-in-Integer : goal.returns-in-Integer
-returns-in-Integer c t w k =  leaf_truth t w k (leaf c.in-Integer.is) c.sexp_view-v.ensures (ap not c.all_zero.ensures)
+returns-in-Integer c t w k = leaf_truth t w k (leaf c.in-Integer.is) c.sexp_view-v.ensures (ap not c.all_zero.ensures)

@@ -8,7 +8,7 @@ use Rattle.ordering.proofs.Provided.{from_end, from_zero, zero_fits, from_name, 
 use Rattle.ordering.proofs.provides.providers.Goals as goal
 
 pub loop-k-init : goal.loop-k-init
-loop-k-init c =  from_end _ _ _
+loop-k-init c = from_end _ _ _
 
 pub overflow_mul-bits : goal.overflow_mul-bits
 overflow_mul-bits c =
@@ -19,7 +19,7 @@ overflow_add-bits c =
     omega (arith, zero_fits c.loop-k.invariant (search rules) c.if-e-eq0.true c.requires.few)
 
 pub loop-k-preserved-then-e-eq0 : goal.loop-k-preserved-then-e-eq0
-loop-k-preserved-then-e-eq0 c =  from_zero c.loop-k.invariant (search rules) c.if-e-eq0.true
+loop-k-preserved-then-e-eq0 c = from_zero c.loop-k.invariant (search rules) c.if-e-eq0.true
 
 pub slice_bounds-same-count : goal.slice_bounds-same-count
 slice_bounds-same-count c =
@@ -42,4 +42,4 @@ loop-k-preserved c =
     from_name c.loop-k.invariant (search rules) c.if-e-eq0.false false (sym c.if-same.false ∙ c.same.ensures)
 
 pub returns : goal.returns
-returns c =  from_start c.loop-k.invariant (omega arith)
+returns c = from_start c.loop-k.invariant (omega arith)

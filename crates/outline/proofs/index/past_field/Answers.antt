@@ -26,25 +26,25 @@ without fields.Tail _ _ _ _ _ _ _ = inr (inr (inr (inl refl)))
 without fields.Several _ _ _ _ _ _ _ = inr (inr (inr (inr refl)))
 
 pub returns-in-Byte : goal.returns-in-Byte
-returns-in-Byte c =  rw c.in-Byte.is (byte_field_past c.past_bytes.ensures.past)
+returns-in-Byte c = rw c.in-Byte.is (byte_field_past c.past_bytes.ensures.past)
 
 pub returns-in-Loc : goal.returns-in-Loc
-returns-in-Loc c =  rw c.in-Loc.is (loc_field_past c.past_bytes-in-Loc.ensures.past)
+returns-in-Loc c = rw c.in-Loc.is (loc_field_past c.past_bytes-in-Loc.ensures.past)
 
 pub returns-in-Keyword : goal.returns-in-Keyword
-returns-in-Keyword c =  rw c.in-Keyword.is (keyword_field_past c.past_keyword.ensures)
+returns-in-Keyword c = rw c.in-Keyword.is (keyword_field_past c.past_keyword.ensures)
 
 pub returns-in-Hint : goal.returns-in-Hint
-returns-in-Hint c =  rw c.in-Hint.is (hint_field_past c.past_hint.ensures)
+returns-in-Hint c = rw c.in-Hint.is (hint_field_past c.past_hint.ensures)
 
 pub returns-in-Number : goal.returns-in-Number
-returns-in-Number c =  rw c.in-Number.is (number_field_past c.integer_view-v.ensures)
+returns-in-Number c = rw c.in-Number.is (number_field_past c.integer_view-v.ensures)
 
 pub returns-in-Name : goal.returns-in-Name
-returns-in-Name c =  rw c.in-Name.is (name_field_past c.past_name.ensures)
+returns-in-Name c = rw c.in-Name.is (name_field_past c.past_name.ensures)
 
 pub returns-in-Raw : goal.returns-in-Raw
-returns-in-Raw c =  rw c.in-Raw.is (raw_field_past c.past_raw.ensures)
+returns-in-Raw c = rw c.in-Raw.is (raw_field_past c.past_raw.ensures)
 
 pub returns-in_default : goal.returns-in_default
 returns-in_default c =

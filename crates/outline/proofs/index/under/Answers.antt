@@ -31,7 +31,7 @@ other-mark marks.Unknown h = refl
 
 pub returns-in-Mod : goal.returns-in-Mod
 unfolding is_mod
-returns-in-Mod c =  rw c.in-Mod.is refl
+returns-in-Mod c = rw c.in-Mod.is refl
 
 pub returns-in_default : goal.returns-in_default
 returns-in_default c = rw (other-mark c.args.mark c.in_default.not-Mod) refl

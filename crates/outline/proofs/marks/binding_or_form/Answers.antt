@@ -26,7 +26,7 @@ known x e f = ap₂ told (sym e) (sym f) ∙ told_is (same x (ascii "BB")) (same
 
 pub returns-then-is_word : goal.returns-then-is_word
 unfolding ascii
-returns-then-is_word c =  known _ (sym c.is_word.ensures ∙ c.if-is_word.true) refl
+returns-then-is_word c = known _ (sym c.is_word.ensures ∙ c.if-is_word.true) refl
 
 pub returns-then-is_word-2 : goal.returns-then-is_word-2
 unfolding ascii

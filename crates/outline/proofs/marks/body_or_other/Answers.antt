@@ -15,27 +15,27 @@ known x n e h = ap (body_by_place (helper_or_other x)) (sym e ∙ h)
 
 pub returns-in-0 : goal.returns-in-0
 unfolding body_by_place
-returns-in-0 c =  known _ 0 c.in-0.is c.body_mark-k.ensures
+returns-in-0 c = known _ 0 c.in-0.is c.body_mark-k.ensures
 
 pub returns-in-1 : goal.returns-in-1
 unfolding body_by_place
-returns-in-1 c =  known _ 1 c.in-1.is c.body_mark-k.ensures
+returns-in-1 c = known _ 1 c.in-1.is c.body_mark-k.ensures
 
 pub returns-in-2 : goal.returns-in-2
 unfolding body_by_place
-returns-in-2 c =  known _ 2 c.in-2.is c.body_mark-k.ensures
+returns-in-2 c = known _ 2 c.in-2.is c.body_mark-k.ensures
 
 pub returns-in-3 : goal.returns-in-3
 unfolding body_by_place
-returns-in-3 c =  known _ 3 c.in-3.is c.body_mark-k.ensures
+returns-in-3 c = known _ 3 c.in-3.is c.body_mark-k.ensures
 
 pub returns-in-4 : goal.returns-in-4
 unfolding body_by_place
-returns-in-4 c =  known _ 4 c.in-4.is c.body_mark-k.ensures
+returns-in-4 c = known _ 4 c.in-4.is c.body_mark-k.ensures
 
 pub returns-in-5 : goal.returns-in-5
 unfolding body_by_place
-returns-in-5 c =  known _ 5 c.in-5.is c.body_mark-k.ensures
+returns-in-5 c = known _ 5 c.in-5.is c.body_mark-k.ensures
 
 pub returns-in_default : goal.returns-in_default
 unfolding body_by_place

@@ -15,23 +15,23 @@ known x n e h = ap (sexp_by_place (body_or_other x)) (sym e ∙ h)
 
 pub returns-in-0 : goal.returns-in-0
 unfolding sexp_by_place
-returns-in-0 c =  known _ 0 c.in-0.is c.sexp_mark-k.ensures
+returns-in-0 c = known _ 0 c.in-0.is c.sexp_mark-k.ensures
 
 pub returns-in-1 : goal.returns-in-1
 unfolding sexp_by_place
-returns-in-1 c =  known _ 1 c.in-1.is c.sexp_mark-k.ensures
+returns-in-1 c = known _ 1 c.in-1.is c.sexp_mark-k.ensures
 
 pub returns-in-2 : goal.returns-in-2
 unfolding sexp_by_place
-returns-in-2 c =  known _ 2 c.in-2.is c.sexp_mark-k.ensures
+returns-in-2 c = known _ 2 c.in-2.is c.sexp_mark-k.ensures
 
 pub returns-in-3 : goal.returns-in-3
 unfolding sexp_by_place
-returns-in-3 c =  known _ 3 c.in-3.is c.sexp_mark-k.ensures
+returns-in-3 c = known _ 3 c.in-3.is c.sexp_mark-k.ensures
 
 pub returns-in-4 : goal.returns-in-4
 unfolding sexp_by_place
-returns-in-4 c =  known _ 4 c.in-4.is c.sexp_mark-k.ensures
+returns-in-4 c = known _ 4 c.in-4.is c.sexp_mark-k.ensures
 
 pub returns-in_default : goal.returns-in_default
 unfolding sexp_by_place

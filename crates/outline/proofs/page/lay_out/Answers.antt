@@ -54,7 +54,7 @@ pub loop-k-init : goal.loop-k-init
 loop-k-init c = (omega arith, λ f i. filled_none)
 
 pub entry_at-e-requires : goal.entry_at-e-requires
-entry_at-e-requires c =  omega (arith, index_fits (start c.before.before).requires.indexed)
+entry_at-e-requires c = omega (arith, index_fits (start c.before.before).requires.indexed)
 
 pub overflow_mul-line : goal.overflow_mul-line
 overflow_mul-line c = omega (arith, room c.before.before.before)
