@@ -1,5 +1,5 @@
 #!/usr/bin/env bash
-# Times two releases of the static library in one run: that of a revision, and that of the working tree. Each gets, beside the calls, a
+# Times two releases of the static library in one run: that of a revision, and that of the working tree (both of today's Rattle). Each gets, beside the calls, a
 # lookup that can be called by itself.
 set -euo pipefail
 cd "$(dirname "$0")/../.."
@@ -16,17 +16,18 @@ build() {
   mkdir -p "$out/$1"
   rm -rf "$out/$1/crates"
   tar -x -C "$out/$1"
-  echo 'pub mod lookup;' >>"$out/$1/crates/exports/src/lib.rt"
-  cat >"$out/$1/crates/exports/src/lookup.rt" <<'END'
+  echo 'pub mod lookup;' >>"$out/$1/crates/exports_c/src/lib.rt"
+  cat >"$out/$1/crates/exports_c/src/lookup.rt" <<'END'
 // A name looked up in a map.
+ghost use Rattle.names.specs.Maps.{NameMap, MapOf};
+
 use names::bytes::number;
 use names::map::lookup;
-ghost use Rattle·names.specs.Maps.{NameMap, MapOf};
 
 // The number that the first two bytes of what a map makes of a name stand for, or 0 where there are fewer.
-#[no_mangle]
+#[unsafe(no_mangle)]
 pub extern "C" fn rename_lookup<'a>(name: &'a [u8], map: &'a [u8]) -> usize
-    requires { ⌜ ((m : NameMap) × MapOf (now map) m) ⌝ }
+    requires { (m : NameMap) × MapOf map.now m }
 {
     let r = lookup(name, map);
     if r.len() < 2 {
@@ -35,11 +36,11 @@ pub extern "C" fn rename_lookup<'a>(name: &'a [u8], map: &'a [u8]) -> usize
     number(r, 0, 2)
 }
 END
-  (cd "$out/$1" && rt staticlib exports) >"$out/$1.log" 2>&1 || { tail -20 "$out/$1.log"; exit 1; }
+  (cd "$out/$1" && bash tools/staticlib.sh) >"$out/$1.log" 2>&1 || { tail -20 "$out/$1.log"; exit 1; }
 }
 
-git archive "$revision" crates crates.txt | build before
-tar -c crates crates.txt | build after
+git archive "$revision" crates crates.txt tools/staticlib.sh | build before
+tar -c --exclude=out crates crates.txt tools/staticlib.sh | build after
 
 # the functions of the first under other names
 nm -g --defined-only "$out/before/target/staticlib/libexports.a" | awk '$2 == "T" { print $3, "before_" $3 }' >"$out/names"

@@ -24,7 +24,7 @@ fn link(library: &Path) {
         stop(&format!("this is no path to a libNAME.a: {}", library.display()));
     };
     if !library.is_file() {
-        stop(&format!("there is no {}: 'rt staticlib exports' makes it, or RENAME_LIB names another", library.display()));
+        stop(&format!("there is no {}: 'bash tools/staticlib.sh' makes it, or RENAME_LIB names another", library.display()));
     }
     println!("cargo:rustc-link-search=native={}", folder.display());
     println!("cargo:rustc-link-lib=static={name}");

@@ -4,7 +4,7 @@ set -euo pipefail
 cd "$(dirname "$0")/../.."
 out=target/c
 mkdir -p "$out"
-rt staticlib exports >"$out/staticlib.log" 2>&1 || { tail -20 "$out/staticlib.log"; exit 1; }
+bash tools/staticlib.sh >"$out/staticlib.log" 2>&1 || { tail -20 "$out/staticlib.log"; exit 1; }
 # CFLAGS is split into words on purpose
 # shellcheck disable=SC2086
 gcc -std=c11 -Wall -Wextra -Werror ${CFLAGS:-} -I include tools/c/example.c target/staticlib/libexports.a -o "$out/example"

@@ -20,13 +20,13 @@ oracle=$here/target/release/oracle
 
 # a copy of the repository's crates, with what is already proved of them, and one more crate
 prepare() {
-    cp -R "$root/crates" "$root/crates.txt" "$work"
-    if [ -d "$root/target" ]; then
-        cp -R "$root/target" "$work"
-    fi
-    echo 'rows: walk ordering records names' >> "$work/crates.txt"
+    mkdir -p "$work/crates"
+    for crate in names records ordering walk; do
+        cp -R "$root/crates/$crate" "$work/crates"
+    done
+    printf 'names:\nrecords: names\nordering: records names\nwalk: ordering records names\nrows: walk ordering records names\n' > "$work/crates.txt"
     mkdir -p "$work/crates/rows/src" "$work/crates/rows/specs" "$work/crates/rows/proofs"
-    printf '// Trivial code, so that the crate has a source file.\npub fn one() -> u64 {\n    1\n}\n' > "$work/crates/rows/src/lib.rt"
+    printf '// Trivial code, so that the crate has a source file.\n#![tactic(auto)]\n\npub fn one() -> u64 {\n    1\n}\n' > "$work/crates/rows/src/lib.rt"
     : > "$work/crates/rows/specs/Lib.antt"
     echo 'pub mod Rows' > "$work/crates/rows/proofs/Lib.antt"
 }
@@ -42,7 +42,7 @@ lines() {
 # whether the definitions answer the lines of a file as they say
 agree() {
     "$oracle" rows < "$1" > "$work/crates/rows/proofs/Rows.antt"
-    (cd "$work" && rt check rows) > "$work/log" 2>&1
+    (cd "$work/crates/rows" && rt check) > "$work/log" 2>&1
 }
 
 # the lines of the first batch that was not proved

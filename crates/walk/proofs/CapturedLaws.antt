@@ -13,7 +13,6 @@ use Rattle.names.proofs.Frames.{same_wider, same_then, at_below, at_above, copie
 use Rattle.names.proofs.Parts.{into}
 use Rattle.names.proofs.Places.{at_place}
 use Rattle.records.specs.StepAnswer.{Outcome, gives, refuses, Gives, refused}
-use Rattle.records.specs.Depth.{depth}
 use Rattle.records.specs.Limits.{cons_limit, most_longest}
 use Rattle.records.specs.Records.{Sexp, Body, BF, sexp_bytes, body_bytes}
 use Rattle.records.specs.Views.{lambda_head}
@@ -26,7 +25,7 @@ use Rattle.walk.specs.Draws.{atoms, dbl, counter_most}
 use Rattle.walk.specs.LambdaWalks.{Captured, lambda_bytes, after_captures, FineCaptured, CapturedReady, WalksCaptured}
 use Rattle.walk.specs.RenameInCons.{rename_in_cons}
 use Rattle.walk.specs.Room.{room}
-use Rattle.walk.specs.Steps.{M, over_long, ◌>>=◌, ret, fits, step, body_size}
+use Rattle.walk.specs.Steps.{M, over_long, ◌>>=◌, ret, step, body_size}
 use Rattle.walk.specs.Walking.{from_sum, AnyBody, BothReady, WalksBoth, Leads, Finishes}
 use Rattle.walk.specs.declared.Piece.{Piece}
 use Rattle.walk.specs.declared.Piece.TheVariants.{Done as Took, Refused as Stopped}

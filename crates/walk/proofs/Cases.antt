@@ -15,7 +15,7 @@ use Rattle.ordering.specs.OrderCall.{order_call}
 -- a call, its counter and its input; those in -in have F and the length of the buffer first
 pub data Call : Type 0 where
   name order whole children single : ℕ → Bytes → Call
-  whole_in children-in single-in : ℕ → ℕ → ℕ → Bytes → Call
+  whole_in children_in single_in : ℕ → ℕ → ℕ → Bytes → Call
 
 -- a buffer of zeros
 abbrev pub room : ℕ → Bytes
@@ -28,8 +28,8 @@ answer (whole c r) = whole_call 1024 262144 c r (room 1024)
 answer (children c r) = children_call 1024 262144 c r (room 1024)
 answer (single c r) = helper_call 1024 262144 c r (room 1024)
 answer (whole_in F n c r) = whole_call F 262144 c r (room n)
-answer (children-in F n c r) = children_call F 262144 c r (room n)
-answer (single-in F n c r) = helper_call F 262144 c r (room n)
+answer (children_in F n c r) = children_call F 262144 c r (room n)
+answer (single_in F n c r) = helper_call F 262144 c r (room n)
 
 -- number, place, counter, and the bytes written
 abbrev pub Seen : Type 0

@@ -11,7 +11,7 @@ use Rattle.names.specs.Names.{ascii}
 use Rattle.records.specs.Records.{SN, SA, Assign, Body, BL, BM, to_bindings, form_bytes}
 use Rattle.walk.specs.Steps.{Visit, events, names_made}
 use Rattle.walk.specs.Calls.{computing_all, whole_run, whole_visits, children_visits, helper_visits}
-use Rattle.walk.proofs.Cases.{Call, name, order, whole, children, single, whole_in, children-in, single-in, answer, Seen, seen, accepted, at, var, number, atom, named, complex, let_one, assign, outer, self_bound, call, lambda, thunk, captures, constant, form_with, form_of, constant_of}
+use Rattle.walk.proofs.Cases.{Call, name, order, whole, children, single, whole_in, children_in, single_in, answer, Seen, seen, accepted, at, var, number, atom, named, complex, let_one, assign, outer, self_bound, call, lambda, thunk, captures, constant, form_with, form_of, constant_of}
 
 -- the assigns that a call reaches
 abbrev pub reached_by : Call → List Visit
@@ -21,8 +21,8 @@ reached_by (whole c r) = whole_visits 1024 262144 c r
 reached_by (children c r) = children_visits 1024 262144 c r
 reached_by (single c r) = helper_visits 1024 262144 c r
 reached_by (whole_in F n c r) = whole_visits F 262144 c r
-reached_by (children-in F n c r) = children_visits F 262144 c r
-reached_by (single-in F n c r) = helper_visits F 262144 c r
+reached_by (children_in F n c r) = children_visits F 262144 c r
+reached_by (single_in F n c r) = helper_visits F 262144 c r
 
 -- of a reached assign: the counter, the record as it then reads, and the record given back
 abbrev pub Reading : Type 0
@@ -96,7 +96,7 @@ lists =
       (0, outer "x" (inner "y"), some (outer "x_$_1" (inner "y_$_2"))) ∷ (1, inner "y", some (inner "y_$_2")) ∷ [],
     )
     ∷ (
-      children-in 1024 16 0 (form_of (outer "x" (inner "y"))),
+      children_in 1024 16 0 (form_of (outer "x" (inner "y"))),
       (8, 0, 0, []),
       (0, outer "x" (inner "y"), some (outer "x_$_1" (inner "y_$_2"))) ∷ (1, inner "y", some (inner "y_$_2")) ∷ [],
     )
@@ -111,12 +111,12 @@ lists =
     ∷ (children 0 (form_of (outer "x" long_name)), (6, 0, 0, []), (0, outer "x" long_name, none) ∷ (1, long_name, none) ∷ [])
     -- and 7: of the inner one, and a byte later of the outer one, after the inner one is finished
     ∷ (
-      children-in 161 161 max_counter (form_of (outer "x" (wide "y"))),
+      children_in 161 161 max_counter (form_of (outer "x" (wide "y"))),
       (7, 0, max_counter, []),
       (max_counter, outer "x" (wide "y"), none) ∷ (4294967296, wide "y", none) ∷ [],
     )
     ∷ (
-      children-in 162 162 max_counter (form_of (outer "x" (wide "y"))),
+      children_in 162 162 max_counter (form_of (outer "x" (wide "y"))),
       (7, 0, max_counter, []),
       (max_counter, outer "x" (wide "y"), none) ∷ (4294967296, wide "y", some (wide "y_$_4294967297")) ∷ [],
     )
@@ -138,7 +138,7 @@ lists =
     )
     ∷ (single 0 (constant_of (inner "y")), accepted 1 (constant_of (inner "y_$_1")), (0, inner "y", some (inner "y_$_1")) ∷ [])
     -- refused with 3 or 4: none is reached, not even the assign before it
-    ∷ (children-in 64 64 0 (form_of (outer "x" (inner "y"))), (3, 0, 0, []), [])
+    ∷ (children_in 64 64 0 (form_of (outer "x" (inner "y"))), (3, 0, 0, []), [])
     ∷ (children 0 (form_of (call (inner "y" ∷ with_mod ∷ []))), (4, 100, 0, []), [])
     ∷ []
 

@@ -10,7 +10,7 @@ use Rattle.names.specs.CallAnswer.{max_counter}
 use Rattle.names.specs.Names.{Bytes}
 use Rattle.records.specs.Records.{Sexp, SN, Parallel, Sequential, Body, BF, helper_bytes, form_bytes}
 use Rattle.walk.specs.Calls.{computing_all}
-use Rattle.walk.proofs.Cases.{Call, whole_in, children-in, single-in, answer, Seen, seen, accepted, at, var, atom, cons, named, complex, let_of, assign, self_bound, call, nil, lambda, thunk, captures, constant, function, macro, namespace, form_with, constant_of}
+use Rattle.walk.proofs.Cases.{Call, whole_in, children_in, single_in, answer, Seen, seen, accepted, at, var, atom, cons, named, complex, let_of, assign, self_bound, call, nil, lambda, thunk, captures, constant, function, macro, namespace, form_with, constant_of}
 
 -- a call with its F still to be given, its input, the least F that is enough, and the answer at this F
 abbrev pub Tight : Type 0
@@ -56,44 +56,44 @@ stops = (5, 7, max_counter, [])
 abbrev pub sum_rows : List Tight
 sum_rows =
     -- Own of a call: its elements
-    (single-in, constant_of (call (nil ∷ growing 5 ∷ self_bound ∷ [])), 185, stops)
+    (single_in, constant_of (call (nil ∷ growing 5 ∷ self_bound ∷ [])), 185, stops)
     -- Own of a parallel let: patterns, binding bodies, Own of the body
-    ∷ (single-in, constant_of (let_of Parallel (complex (atom "y") (growing 2) ∷ named "z" nil ∷ []) trap), 240, stops)
+    ∷ (single_in, constant_of (let_of Parallel (complex (atom "y") (growing 2) ∷ named "z" nil ∷ []) trap), 240, stops)
     -- both patterns, and the binding bodies before the last
-    ∷ (single-in, constant_of (let_of Parallel (complex four nil ∷ complex (atom "y") (growing 3) ∷ named "z" self_bound ∷ []) nil), 274, stops)
+    ∷ (single_in, constant_of (let_of Parallel (complex four nil ∷ complex (atom "y") (growing 3) ∷ named "z" self_bound ∷ []) nil), 274, stops)
     -- Own of a sequential let: the desugared let
-    ∷ (single-in, constant_of (let_of Sequential (named "x" nil ∷ named "y" nil ∷ named "z" nil ∷ []) self_bound), 142, stops)
+    ∷ (single_in, constant_of (let_of Sequential (named "x" nil ∷ named "y" nil ∷ named "z" nil ∷ []) self_bound), 142, stops)
     -- Own of an assign: Own of a binding body and the pattern, before In-body of the binding body
-    ∷ (single-in, constant_of (assign (complex four trap ∷ []) nil), 217, stops)
+    ∷ (single_in, constant_of (assign (complex four trap ∷ []) nil), 217, stops)
     -- patterns and In-body of binding bodies, Own of the body
-    ∷ (single-in, constant_of (assign (complex (atom "x") nil ∷ complex (atom "y") (uses "x" 2) ∷ []) trap), 217, stops)
+    ∷ (single_in, constant_of (assign (complex (atom "x") nil ∷ complex (atom "y") (uses "x" 2) ∷ []) trap), 217, stops)
     -- Own of a lambda: args, Own of the body
-    ∷ (single-in, constant_of (lambda four trap), 217, stops)
+    ∷ (single_in, constant_of (lambda four trap), 217, stops)
     -- In-body of a let: binding bodies
     ∷ (
-      single-in,
+      single_in,
       helper_bytes (function (atom "x") (captures (let_of Parallel (named "y" nil ∷ named "z" (uses "x" 14) ∷ named "w" (thunk self_bound) ∷ []) nil))),
       348,
       stops,
     )
     -- In-body of a call: element 0 as it was, other elements
-    ∷ (single-in, helper_bytes (function (atom "x") (call (var "x" ∷ uses "x" 11 ∷ trap ∷ []))), 281, stops)
+    ∷ (single_in, helper_bytes (function (atom "x") (call (var "x" ∷ uses "x" 11 ∷ trap ∷ []))), 281, stops)
     -- In-body of a lambda: captures, capture args, Own of the body
-    ∷ (single-in, helper_bytes (function (atom "x") (captures (BF at (0 ∷ []) (atom "x") (uses "x" 5) (SN at) trap))), 257, stops)
+    ∷ (single_in, helper_bytes (function (atom "x") (captures (BF at (0 ∷ []) (atom "x") (uses "x" 5) (SN at) trap))), 257, stops)
     -- a function: args, Own of the body
-    ∷ (single-in, helper_bytes (function (atom "x") trap), 124, stops)
+    ∷ (single_in, helper_bytes (function (atom "x") trap), 124, stops)
     -- a macro: args, Own of its form
-    ∷ (single-in, helper_bytes (macro (atom "x") (form_with (atom "y") [] third)), 145, stops)
+    ∷ (single_in, helper_bytes (macro (atom "x") (form_with (atom "y") [] third)), 145, stops)
     -- its form by the in-rule: helpers
-    ∷ (single-in, helper_bytes (macro (atom "x") (form_with (atom "y") (constant nil ∷ constant (uses "x" 12) ∷ []) third)), 322, stops)
+    ∷ (single_in, helper_bytes (macro (atom "x") (form_with (atom "y") (constant nil ∷ constant (uses "x" 12) ∷ []) third)), 322, stops)
     -- a namespace: helpers
-    ∷ (single-in, helper_bytes (namespace (constant nil ∷ constant (growing 5) ∷ constant self_bound ∷ [])), 205, stops)
+    ∷ (single_in, helper_bytes (namespace (constant nil ∷ constant (growing 5) ∷ constant self_bound ∷ [])), 205, stops)
     -- a form: args, helpers, Own of the body
     ∷ (whole_in, form_bytes (form_with (atom "x") (constant trap ∷ []) nil), 142, stops)
     -- the first helper by the in-rule in place of Own, before the second
     ∷ (whole_in, form_bytes (form_with (atom "x") (constant (uses "x" 1) ∷ constant trap ∷ []) nil), 193, stops)
     -- Children only: helpers
-    ∷ (children-in, form_bytes (form_with (SN at) (constant nil ∷ constant (growing 5) ∷ []) self_bound), 205, stops)
+    ∷ (children_in, form_bytes (form_with (SN at) (constant nil ∷ constant (growing 5) ∷ []) self_bound), 205, stops)
     ∷ []
 
 -- Results that leave the sum: at F what is written has just F bytes, and no sum passes them.
@@ -101,46 +101,46 @@ abbrev pub release_rows : List Tight
 release_rows =
     -- Own of a body leaves before In-body of it is added: of a let, of an assign, of a lambda
     (
-      single-in,
+      single_in,
       constant_of (let_nil "x" (uses "x" 4)),
       164,
       accepted 4294967296 (constant_of (let_nil new_x (uses new_x 4))),
     )
     ∷ (
-      single-in,
+      single_in,
       constant_of (assign (complex (atom "x") nil ∷ []) (uses "x" 3)),
       147,
       accepted 4294967296 (constant_of (assign (complex (atom new_x) nil ∷ []) (uses new_x 3))),
     )
     ∷ (
-      single-in,
+      single_in,
       constant_of (lambda (atom "x") (uses "x" 2)),
       116,
       accepted 4294967296 (constant_of (lambda (atom new_x) (uses new_x 2))),
     )
     -- a desugared let leaves before Own of it is added
     ∷ (
-      single-in,
+      single_in,
       constant_of (let_of Sequential (named "x" nil ∷ []) (var "x")),
       77,
       accepted 4294967296 (constant_of (let_nil new_x (var new_x))),
     )
     -- In-body of element 0 leaves before the element is put back
     ∷ (
-      single-in,
+      single_in,
       constant_of (let_nil "x" (call (uses "x" 3 ∷ var "x" ∷ []))),
       133,
       accepted 4294967296 (constant_of (let_nil new_x (call (uses "x" 3 ∷ var new_x ∷ [])))),
     )
     -- Own of a function's body, of a macro's form, of a form's helpers and of its body
     ∷ (
-      single-in,
+      single_in,
       helper_bytes (function (atom "x") (call (nil ∷ var "x" ∷ []))),
       71,
       accepted 4294967296 (helper_bytes (function (atom new_x) (call (nil ∷ var new_x ∷ [])))),
     )
     ∷ (
-      single-in,
+      single_in,
       helper_bytes (macro (atom "x") (form_with (SN at) [] (var "x"))),
       69,
       accepted 4294967296 (helper_bytes (macro (atom new_x) (form_with (SN at) [] (var new_x)))),

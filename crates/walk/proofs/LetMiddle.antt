@@ -14,7 +14,6 @@ use Rattle.walk.specs.Arena.{outcome}
 use Rattle.walk.specs.Bodyforms.{each_binding_body}
 use Rattle.walk.specs.Draws.{inside_of, dbl}
 use Rattle.walk.specs.LetWalks.{heads, FineBinding, Chosen, AllReady, AllBound}
-use Rattle.walk.specs.Room.{room}
 use Rattle.walk.specs.Scopes.{with_patterns}
 use Rattle.walk.specs.Steps.{M, ◌>>=◌}
 use Rattle.walk.specs.Walking.{rule, led}

@@ -10,7 +10,7 @@ use Rattle.names.specs.Segments.{At, SameOutside}
 use Rattle.names.specs.declared.Refusal.{Refusal}
 use Rattle.names.proofs.Frames.{same_refl, same_then, same_wider, at_below}
 use Rattle.names.proofs.Parts.{part, back, part_length, at_part, at_back, same_back}
-use Rattle.names.proofs.Places.{at_left, at_right, at_place, at_join, at_is, at_get}
+use Rattle.names.proofs.Places.{at_left, at_right, at_place, at_join, at_get}
 use Rattle.records.specs.StepAnswer.{refuses}
 use Rattle.records.specs.Depth.{binding_depth}
 use Rattle.records.specs.Lists.{joined, Each}

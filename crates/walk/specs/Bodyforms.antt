@@ -6,7 +6,7 @@ use Rattle.names.specs.Names.{Bytes}
 use Rattle.names.specs.Maps.{NameMap}
 use Rattle.names.specs.Refusals.{refusing, place_at}
 use Rattle.names.specs.declared.Refusal.{Refusal}
-use Rattle.records.specs.Records.{Loc, loc_number, Sexp, SN, Parallel, Sequential, Assign, Name, Complex, Body, BL, BQ, BV, BC, BM, BF, Bodies, []ᵇ, ◌∷ᵇ◌, Tail, no_tail, tail, Binding, BB, Bindings, []ᵍ, ◌∷ᵍ◌, to_bindings, list_of, byte}
+use Rattle.records.specs.Records.{Loc, loc_number, Sexp, Parallel, Sequential, Assign, Name, Complex, Body, BL, BQ, BV, BC, BM, BF, Bodies, []ᵇ, ◌∷ᵇ◌, Tail, no_tail, tail, Binding, BB, Bindings, []ᵍ, ◌∷ᵍ◌, to_bindings, list_of, byte}
 pub use Rattle.ordering.specs.Assign.{no_binding}
 use Rattle.ordering.specs.Toposort.{ordered, deadlock}
 use Rattle.ordering.specs.Words.{toposort_assign_bindings}

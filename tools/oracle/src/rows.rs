@@ -20,17 +20,17 @@ fn weight(case: &Case, answer: &Answer) -> usize {
 const HEAD: &str = "-- Rows: what the definitions answer is what the Rust gave. Made by tools/oracle.
 -- Assumes nothing.
 use mathlib.Core.Bool.{true, false}
-use mathlib.Core.List.{List, [], _∷_, _++_, map}
-use mathlib.Core.Path.{_≡_, refl}
+use mathlib.Core.List.{List, [], ◌∷◌, ◌++◌, map}
+use mathlib.Core.Path.{◌≡◌, refl}
 use Prim.Native.Char.{code}
-use Prim.Native.Nat.{ℕ, _+_, _*_, _-_}
-use Prim.Native.String.{String, [] as []ˢ, _∷_ as _∷ˢ_}
+use Prim.Native.Nat.{ℕ, ◌+◌, ◌*◌, ◌-◌}
+use Prim.Native.String.{String, [] as []ˢ, ◌∷◌ as ◌∷ˢ◌}
 use lib.Dec.{ltb}
 use lib.ListN.{length, replicate}
-use Rattle·names.specs.CallAnswer.{Result, name-call}
-use Rattle·names.specs.Names.{Bytes}
-use Rattle·ordering.specs.OrderCall.{order-call}
-use Rattle·walk.specs.Calls.{computing-all, whole-call, children-call, helper-call}
+use Rattle.names.specs.CallAnswer.{Result, name_call}
+use Rattle.names.specs.Names.{Bytes}
+use Rattle.ordering.specs.OrderCall.{order_call}
+use Rattle.walk.specs.Calls.{computing_all, whole_call, children_call, helper_call}
 
 pub data Call : Type 0 where
   name order whole children helper : Call
@@ -46,18 +46,18 @@ hex (c ∷ˢ d ∷ˢ s) = (16 * digit (code c) + digit (code d)) ∷ hex s
 
 -- F, work, counter, input, result buffer
 abbrev pub answer : Call → ℕ → ℕ → ℕ → Bytes → Bytes → Result
-answer name f w c input buffer = name-call input c buffer
-answer order f w c input buffer = order-call f w c input buffer
-answer whole f w c input buffer = whole-call f w c input buffer
-answer children f w c input buffer = children-call f w c input buffer
-answer helper f w c input buffer = helper-call f w c input buffer
+answer name f w c input buffer = name_call input c buffer
+answer order f w c input buffer = order_call f w c input buffer
+answer whole f w c input buffer = whole_call f w c input buffer
+answer children f w c input buffer = children_call f w c input buffer
+answer helper f w c input buffer = helper_call f w c input buffer
 
 -- number, place, counter, rounds, length, the whole buffer
 abbrev pub Seen : Type 0
 Seen = ℕ × ℕ × ℕ × ℕ × ℕ × Bytes
 
 abbrev pub seen : Result → Seen
-seen r = (r .0 .refusal .number, r .0 .refusal .place .start, r .0 .counter, r .0 .rounds, r .0 .len, r .1)
+seen r = (r.0.refusal.number, r.0.refusal.place.start, r.0.counter, r.0.rounds, r.0.len, r.1)
 
 -- with a buffer of b bytes 7
 abbrev pub run : Call → ℕ → ℕ → ℕ → ℕ → String → Seen
@@ -70,7 +70,7 @@ abbrev pub gave : ℕ → ℕ → ℕ → ℕ → ℕ → String → Seen
 gave n p c r b out = (n, p, c, r, length (hex out), padded b (hex out))
 ";
 
-const UNFOLDING: &str = "computing-all";
+const UNFOLDING: &str = "computing_all";
 
 /// Rows that are checked together, from one line to another.
 struct Batch {
@@ -124,6 +124,6 @@ fn print_batch(batch: &Batch) {
         println!("    {row} ∷");
     }
     println!("    []\n");
-    println!("pub batch-{index} : map (λ r. r .0) table-{index} ≡ map (λ r. r .1) table-{index}");
+    println!("pub batch-{index} : map (λ r. r.0) table-{index} ≡ map (λ r. r.1) table-{index}");
     println!("unfolding {UNFOLDING}\nbatch-{index} = refl\n");
 }
