@@ -92,7 +92,7 @@ fn goes_on(
     done: u64,
 ) -> io::Result<bool> {
     let outcome = next(stdin, mem, buf)?;
-    replays::goes_on(rt, outcome, done, b" S record")
+    Ok(replays::goes_on(rt, outcome, done, b" S record"))
 }
 
 // A proved loop has to end, and nothing says that the input does. So the loop counts, up to a

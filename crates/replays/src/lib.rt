@@ -69,20 +69,21 @@ fn all_agree(rt: &impl Print, done: u64, kind: &[u8]) -> io::Result<()> {
     rt.write_all(b" cases agree\n")
 }
 
-// Says what came of the case after `done` others of a kind, and answers whether to go on.
-pub fn goes_on(rt: &impl Print, outcome: Verdict, done: u64, kind: &[u8]) -> io::Result<bool>
-    ensures { IfOk result (λ further. further ≡ goes_further outcome) }
+// Says what came of the case after `done` others of a kind, and answers whether to go on. What
+// cannot be written is dropped.
+pub fn goes_on(rt: &impl Print, outcome: Verdict, done: u64, kind: &[u8]) -> bool
+    ensures { result ≡ goes_further outcome }
 {
-    match outcome {
+    let _ = match outcome {
         Verdict::Agrees => {
-            return Ok(true);
+            return true;
         }
-        Verdict::Ended => all_agree(rt, done, kind)?,
-        Verdict::Differs => fault(rt, done, kind, b"does not\n")?,
-        Verdict::CutOff => fault(rt, done, kind, b"is cut off\n")?,
-        Verdict::Broken => fault(rt, done, kind, b"is broken\n")?,
-    }
-    Ok(false)
+        Verdict::Ended => all_agree(rt, done, kind),
+        Verdict::Differs => fault(rt, done, kind, b"does not\n"),
+        Verdict::CutOff => fault(rt, done, kind, b"is cut off\n"),
+        Verdict::Broken => fault(rt, done, kind, b"is broken\n"),
+    };
+    false
 }
 
 // Fills memory.
