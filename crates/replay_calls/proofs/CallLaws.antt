@@ -3,10 +3,10 @@ use mathlib.Core.Bool.{Bool}
 use mathlib.Core.List.{◌++◌}
 use mathlib.Core.Path.{◌≡◌, refl, sym, ap, ◌∙◌}
 use native.Mathlib.Omega.{arith}
-use Prim.Native.Nat.{ℕ, zero, suc, ◌-◌, ◌≤◌, ◌<◌}
+use Prim.Native.Nat.{ℕ, zero, suc, ◌-◌, ◌≤◌}
 use lib.ListN.{length, take, drop, length-append, length-drop, length-replicate, take-append-drop}
 use lib.Seq.{take_at, take_all, drop_at, length-take-le}
-use Rattle.names.specs.CallAnswer.{Result, written}
+use Rattle.names.specs.CallAnswer.{written}
 use Rattle.names.specs.Names.{Bytes, same}
 use Rattle.names.specs.Refusals.{place_at, refusing}
 use Rattle.names.specs.declared.Answer.{Answer}

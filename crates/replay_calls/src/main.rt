@@ -131,7 +131,7 @@ fn goes_on(
     done: u64,
 ) -> io::Result<bool> {
     let outcome = next(stdin, work, mem, buf)?;
-    replays::goes_on(rt, outcome, done, b" call")
+    Ok(replays::goes_on(rt, outcome, done, b" call"))
 }
 
 // A proved loop has to end, and nothing says that the input does. So the loop counts, up to a
