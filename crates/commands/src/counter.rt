@@ -1,9 +1,8 @@
 // A counter or an F, read from its decimal digits.
-ghost use Rattle.std.specs.Prelude.{◌≡◌, IfOk};
+ghost use Rattle.std.specs.Prelude.{◌≡◌};
 ghost use Rattle.commands.specs.Counters.{counter_of};
 
 use crate::say;
-use std::io;
 
 // A counter that was read, or nothing.
 #[derive(Clone, Copy)]
@@ -12,20 +11,21 @@ pub enum Counter {
     Nothing,
 }
 
-// The number that an argument gives; where it gives none, that is said.
-pub fn argument(to: &impl Print, which: &[u8], digits: &[u8]) -> io::Result<Counter>
-    ensures { IfOk result (λ c. c ≡ counter_of digits.now) }
+// The number that an argument gives; where it gives none, that is said. What cannot be written is
+// dropped.
+pub fn argument(to: &impl Print, which: &[u8], digits: &[u8]) -> Counter
+    ensures { result ≡ counter_of digits.now }
 {
     let c = parse(digits);
     if let Counter::Nothing = c {
-        say::wrong(
+        let _ = say::wrong(
             to,
             which,
             b"a number of at most 64 bits, in decimal digits",
             digits,
-        )?;
+        );
     }
-    Ok(c)
+    c
 }
 
 // The number that 1 to 20 digits stand for, where it fits.

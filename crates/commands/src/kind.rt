@@ -1,11 +1,10 @@
 // A kind of record, read from its word.
-ghost use Rattle.std.specs.Prelude.{◌≡◌, IfOk};
+ghost use Rattle.std.specs.Prelude.{◌≡◌};
 ghost use Rattle.commands.specs.Words.{named_kind};
 
 use crate::say;
 use names::bytes::same;
 use records::Wanted;
-use std::io;
 
 // A kind that was read, or nothing.
 #[derive(Clone, Copy)]
@@ -15,14 +14,14 @@ pub enum Kind {
 }
 
 // The kind that an argument names; where it names none, that is said.
-pub fn argument(to: &impl Print, word: &[u8]) -> io::Result<Kind>
-    ensures { IfOk result (λ k. k ≡ named_kind word.now) }
+pub fn argument(to: &impl Print, word: &[u8]) -> Kind
+    ensures { result ≡ named_kind word.now }
 {
     let k = parse(word);
     if let Kind::Nothing = k {
-        say::wrong(to, b"KIND", b"form, helper or assign", word)?;
+        let _ = say::wrong(to, b"KIND", b"form, helper or assign", word);
     }
-    Ok(k)
+    k
 }
 
 // The kind that a word names.

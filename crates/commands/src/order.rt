@@ -28,7 +28,7 @@ pub fn order(
     work: &mut [u8; WORK],
 ) -> io::Result<()> {
     let mut input = [0u8; MOST_READ];
-    let c = file::read(rt, to, path, &mut input)?;
+    let c = file::read(rt, to, path, &mut input);
     let len = c.len;
     if c.read {
         ordered(rt, to, &input[..len], f, work)?;

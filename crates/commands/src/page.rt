@@ -32,7 +32,7 @@ fn read(
     lines: &mut [u8; MOST_PAGE],
 ) -> io::Result<()> {
     let mut input = [0u8; MOST_READ];
-    let c = file::read(rt, to, path, &mut input)?;
+    let c = file::read(rt, to, path, &mut input);
     let len = c.len;
     if c.read {
         print(rt, to, &input[..len], f, work, lines)?;

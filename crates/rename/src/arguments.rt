@@ -11,7 +11,7 @@ use std::io;
 use std::rt::Files;
 
 // The number that an argument gives.
-fn number(rt: &impl Env, err: &impl Print, i: usize, which: &[u8]) -> io::Result<Counter> {
+fn number(rt: &impl Env, err: &impl Print, i: usize, which: &[u8]) -> Counter {
     let mut digits = [0u8; ARGUMENT];
     let n = argument(rt, i, &mut digits);
     counter::argument(err, which, &digits[..n])
@@ -23,7 +23,7 @@ pub fn name(rt: &(impl Env + Print), err: &impl Print) -> io::Result<()> {
     if count(rt) != 4 {
         return usage::print(err);
     }
-    let c = number(rt, err, 3, b"COUNTER")?;
+    let c = number(rt, err, 3, b"COUNTER");
     if let Counter::Is(counter) = c {
         let mut name = [0u8; ARGUMENT];
         match rt.arg(2, &mut name) {
@@ -41,9 +41,9 @@ pub fn check(rt: &(impl Env + Files + Print), err: &impl Print) -> io::Result<()
     }
     let mut word = [0u8; ARGUMENT];
     let n = argument(rt, 2, &mut word);
-    let k = kind::argument(err, &word[..n])?;
+    let k = kind::argument(err, &word[..n]);
     if let Kind::Is(wanted) = k {
-        let c = number(rt, err, 4, b"F")?;
+        let c = number(rt, err, 4, b"F");
         if let Counter::Is(f) = c {
             let mut path = [0u8; ARGUMENT];
             let n = argument(rt, 3, &mut path);
@@ -58,7 +58,7 @@ pub fn of_file(rt: &(impl Env + Files + Print), err: &impl Print, asked: Asked) 
     if count(rt) != 4 {
         return usage::print(err);
     }
-    let c = number(rt, err, 3, b"F")?;
+    let c = number(rt, err, 3, b"F");
     if let Counter::Is(f) = c {
         task::run(rt, err, asked, f as usize, 0)?;
     }
@@ -70,9 +70,9 @@ pub fn renaming(rt: &(impl Env + Files + Print), err: &impl Print, call: Call) -
     if count(rt) != 6 {
         return usage::print(err);
     }
-    let c = number(rt, err, 3, b"F")?;
+    let c = number(rt, err, 3, b"F");
     if let Counter::Is(f) = c {
-        let c = number(rt, err, 4, b"COUNTER")?;
+        let c = number(rt, err, 4, b"COUNTER");
         if let Counter::Is(counter) = c {
             task::run(rt, err, Asked::Renaming(call), f as usize, counter)?;
         }

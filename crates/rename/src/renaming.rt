@@ -27,7 +27,7 @@ pub fn read(
     work: &mut [u8; WORK],
 ) -> io::Result<()> {
     let mut input = [0u8; MOST_READ];
-    let c = file::read(rt, err, path, &mut input)?;
+    let c = file::read(rt, err, path, &mut input);
     let len = c.len;
     if c.read {
         rename(rt, err, call, &input[..len], f, counter, work)?;

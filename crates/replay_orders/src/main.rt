@@ -105,7 +105,7 @@ fn goes_on(
     done: u64,
 ) -> io::Result<bool> {
     let outcome = next(stdin, work, buf)?;
-    replays::goes_on(rt, outcome, done, b" order")
+    Ok(replays::goes_on(rt, outcome, done, b" order"))
 }
 
 // A proved loop has to end, and nothing says that the input does. So the loop counts, up to a

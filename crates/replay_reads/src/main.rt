@@ -6,7 +6,7 @@
 
 mod reader;
 
-ghost use Rattle.std.specs.Prelude.{◌≡◌, IfOk};
+ghost use Rattle.std.specs.Prelude.{◌≡◌};
 ghost use Rattle.replays.specs.declared.Verdict.TheVariants.{Agrees};
 ghost use Rattle.replay_reads.specs.Reading.{ReadAgrees};
 
@@ -20,19 +20,19 @@ use std::io::Read;
 const LONGEST: usize = 65536;
 
 // Reads the input of a case into a buffer of its length, and has the reader answer it.
-fn judged(stdin: &mut impl Read, head: &[u8; 8], input: &mut [u8]) -> io::Result<Verdict>
-    ensures { IfOk result (λ verdict. verdict ≡ Agrees → ReadAgrees head.now input.new) }
+fn judged(stdin: &mut impl Read, head: &[u8; 8], input: &mut [u8]) -> Verdict
+    ensures { result ≡ Agrees → ReadAgrees head.now input.new }
 {
-    if !reads(stdin, input)? {
-        return Ok(Verdict::CutOff);
-    }
-    Ok(replays::judged(agrees(
+    let Ok(true) = reads(stdin, input) else {
+        return Verdict::CutOff;
+    };
+    replays::judged(agrees(
         number(head, 0, 1) as u8,
         number(head, 2, 2),
         number(head, 1, 1) as u32,
         number(head, 4, 2) as u64,
         input,
-    )))
+    ))
 }
 
 // Reads the next case and has the reader answer it.
@@ -49,13 +49,13 @@ fn next(stdin: &mut impl Read, buf: &mut [u8]) -> io::Result<Verdict> {
     if len > buf.len() {
         return Ok(Verdict::CutOff);
     }
-    judged(stdin, &head, &mut buf[..len])
+    Ok(judged(stdin, &head, &mut buf[..len]))
 }
 
 // Replays the case after `done` others, and answers whether to go on.
 fn goes_on(rt: &impl Print, stdin: &mut impl Read, buf: &mut [u8], done: u64) -> io::Result<bool> {
     let outcome = next(stdin, buf)?;
-    replays::goes_on(rt, outcome, done, b" reading")
+    Ok(replays::goes_on(rt, outcome, done, b" reading"))
 }
 
 // A proved loop has to end, and nothing says that the input does. So the loop counts, up to a
