@@ -1,4 +1,4 @@
-// Made names: a name, `◌$◌` and a number in decimal.
+// Made names: a name, `_$_` and a number in decimal.
 ghost use Rattle.std.specs.Prelude.{◌≡◌, ◌+◌, ◌^◌, ◌≤◌, ◌<◌, length};
 ghost use Rattle.names.specs.CallAnswer.{written};
 ghost use Rattle.names.specs.Names.{decimal, gensym};

@@ -45,4 +45,5 @@ loop-i-preserved c =
 
 pub returns : goal.returns
 returns c =
-    let l = c.loop-i in let e : l.i ≡ c.args.width = omega arith in rw (← e) (record { value = l.invariant.1; upper_bound = l.invariant.2 })
+    let l = c.loop-i in
+    let e : l.i ≡ c.args.width = omega arith in rw (← e) (record { value = l.invariant.1; upper_bound = l.invariant.2 })

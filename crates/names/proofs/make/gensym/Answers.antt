@@ -39,4 +39,11 @@ gensym_len-requires c = c.requires.counter_bound
 pub returns : goal.returns
 unfolding ascii start
 returns c =
-    let at-put-decimal = c.before.before.before.before in let back = at-put-decimal.before.before.before in let at-put2 = back.before in let back-2 = at-put2.before.before.before in let at-put = back-2.before.before in let a = (start c.before).args in let made = gensym_written a.name.now a.counter at-put.put.ensures at-put2.put-2.ensures at-put-decimal.put_decimal.ensures in record { value = c.gensym_len.ensures; out_after = made (start c.before).requires.counter_in_bounds }
+    let at-put-decimal = c.before.before.before.before in
+    let back = at-put-decimal.before.before.before in
+    let at-put2 = back.before in
+    let back-2 = at-put2.before.before.before in
+    let at-put = back-2.before.before in
+    let a = (start c.before).args in
+    let made = gensym_written a.name.now a.counter at-put.put.ensures at-put2.put-2.ensures at-put-decimal.put_decimal.ensures in
+    record { value = c.gensym_len.ensures; out_after = made (start c.before).requires.counter_in_bounds }

@@ -50,7 +50,10 @@ bounds-starts-j-2 c = omega (arith, c.loop-j.invariant.2, c.requires.bodies_len_
 
 pub returns : goal.returns
 returns c =
-    let l = c.loop-j in let room : l.j < length l.starts = omega (arith, l.invariant.2, c.requires.bodies_len_bound.1) in let w = c.requires.collectable in record {
+    let l = c.loop-j in
+    let room : l.j < length l.starts = omega (arith, l.invariant.2, c.requires.bodies_len_bound.1) in
+    let w = c.requires.collectable in
+    record {
       starts = subst (λ (k : ℕ). Starts k l.needs (set l.starts l.j l.n)) w.1.size
           (collected_starts (l.invariant.3 w.0 w.1) (omega (arith, w.1.size)) room (omega (arith, w.1.size, c.requires.bodies_len_bound.0)) (omega (arith, w.1.fits, l.invariant.1)));
       finds_needs = λ bs b. collected_all (l.invariant.3 bs b) (omega (arith, b.size)) room;

@@ -1,4 +1,5 @@
 -- `ordering::needs::body_needs`, and what it is made of, meet their contracts: the names of bodies and bindings. What falls is the length
+-- of the bytes from a mark on, and in them the rank of the function. Assumes nothing.
 use mathlib.Core.Path.{◌≡◌}
 use Prim.Native.Nat.{◌+◌, ◌-◌, ◌*◌, ◌≤◌}
 use lib.ListN.{length}

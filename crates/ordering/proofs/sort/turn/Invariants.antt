@@ -1,4 +1,5 @@
 -- `ordering::sort::turn` meets its contract. The invariants: what the turn makes of the row from `p` on is still what it is to make of it all;
+-- the binding is ready where its needs from `k` on are met. Assumes nothing.
 use mathlib.Core.Path.{◌≡◌}
 use mathlib.Core.List.{List}
 use Prim.Native.Nat.{◌-◌, ◌≤◌, ◌<◌}

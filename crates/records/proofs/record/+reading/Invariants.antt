@@ -1,4 +1,5 @@
 -- The reader of B, BB, H and CF records meets its contracts: what falls is in Base, and what each function needs in a file of its own. What stays is that
+-- a reading is within the bytes and comes to where the definition of reading comes. Assumes nothing.
 use Prim.Native.Nat.{◌+◌, ◌*◌, ◌≤◌, ◌-◌}
 use Rattle.records.proofs.Goes.{weight}
 use lib.ListN.{length}
