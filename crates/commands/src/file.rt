@@ -13,7 +13,8 @@ pub struct Contents {
     pub len: usize,
 }
 
-// Reads a file, as much of it as the buffer holds, or says that it cannot be read.
+// Reads a file, as much of it as the buffer holds, or says that it cannot be read. What cannot be
+// written is dropped.
 pub fn read(rt: &impl Files, to: &impl Print, path: &[u8], input: &mut [u8]) -> Contents
     ensures { result.len ≤ length input.old }
 {

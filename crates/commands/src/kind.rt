@@ -13,7 +13,8 @@ pub enum Kind {
     Nothing,
 }
 
-// The kind that an argument names; where it names none, that is said.
+// The kind that an argument names; where it names none, that is said. What cannot be written is
+// dropped.
 pub fn argument(to: &impl Print, word: &[u8]) -> Kind
     ensures { result ≡ named_kind word.now }
 {
