@@ -6,8 +6,7 @@ use lib.ListN.{length}
 use Rattle.names.proofs.Places.{at_whole}
 use Rattle.names.specs.Names.{Bytes}
 use Rattle.names.specs.Segments.{At}
-use Rattle.records.specs.declared.Opening.{Opening}
-use Rattle.records.specs.declared.Opening.TheVariants.{Accepted}
+use Rattle.std.specs.Prelude.{Ok}
 use Rattle.records.specs.declared.Wanted.{Wanted}
 use Rattle.records.specs.Limits.{most_longest}
 use Rattle.records.specs.Opened.{open_input}
@@ -33,9 +32,9 @@ counts_records {s} h = record {
 }
 
 -- an input that is accepted is no longer than the longest record
-pub accepted_size : (w : Wanted) (F work c : ℕ) (s : Bytes) {r : Opening} → r ≡ opening_of (open_input (wanted_reader w).1 F work c s) → r ≡ Accepted → length s ≤ most_longest
-accepted_size w F work c s e a =
+pub accepted_size : (w : Wanted) (F work c : ℕ) (s : Bytes) → Ok tt ≡ opening_of (open_input (wanted_reader w).1 F work c s) → length s ≤ most_longest
+accepted_size w F work c s e =
     let reader = (wanted_reader w).1 in
-    let o = is_opened (open_input reader F work c s) (sym e ∙ a) in
+    let o = is_opened (open_input reader F work c s) (sym e) in
     let h = subst (Start reader F work c s) o.1 (start reader F work c s) in
     omega (arith, h.longest, h.size)

@@ -2,8 +2,8 @@
 -- Assumes nothing.
 use Rattle.std.specs.Prelude.{Bool, true, false, ◌&&◌, [], ◌∷◌, ℕ, ◌+◌, ◌-◌, ◌*◌, ◌^◌, leb, ltb, length}
 use Rattle.names.specs.Names.{Bytes}
-use Rattle.commands.specs.declared.counter.Counter.{Counter}
-use Rattle.commands.specs.declared.counter.Counter.TheVariants.{Is, Nothing}
+use Rattle.std.specs.declared.option.Option.{Option}
+use Rattle.std.specs.declared.option.Option.TheVariants.{Some, None}
 
 -- whether each byte is a digit
 unfoldable pub are_digits : Bytes → Bool
@@ -16,9 +16,9 @@ value_after n [] = n
 value_after n (b ∷ bs) = value_after (10 * n + (b - 48)) bs
 
 -- a number, where it comes of digits and fits
-unfoldable pub fitting : Bool → ℕ → Counter
-fitting false n = Nothing
-fitting true n = elim (ltb n (2 ^ 64)) [ true ↦ Is n | false ↦ Nothing ]
+unfoldable pub fitting : Bool → ℕ → Option ℕ
+fitting false n = None
+fitting true n = elim (ltb n (2 ^ 64)) [ true ↦ Some n | false ↦ None ]
 
-unfoldable pub counter_of : Bytes → Counter
+unfoldable pub counter_of : Bytes → Option ℕ
 counter_of bs = fitting (leb 1 (length bs) && leb (length bs) 20 && are_digits bs) (value_after 0 bs)

@@ -2,16 +2,17 @@
 use Rattle.std.specs.Prelude.{true, false}
 use Rattle.names.specs.Names.{Bytes, ascii, same}
 use Rattle.records.specs.declared.Wanted.TheVariants.{Form, Helper, Assign}
-use Rattle.commands.specs.declared.kind.Kind.{Kind}
-use Rattle.commands.specs.declared.kind.Kind.TheVariants.{Is, Nothing}
+use Rattle.std.specs.declared.option.Option.{Option}
+use Rattle.std.specs.declared.option.Option.TheVariants.{Some, None}
+use Rattle.records.specs.declared.Wanted.{Wanted}
 
 -- the kind that a word names
-unfoldable pub named_kind : Bytes → Kind
+unfoldable pub named_kind : Bytes → Option Wanted
 named_kind bs =
     elim (same bs (ascii "form")) [
-      | true ↦ Is Form
+      | true ↦ Some Form
       | false ↦ elim (same bs (ascii "helper")) [
-        | true ↦ Is Helper
-        | false ↦ elim (same bs (ascii "assign")) [ true ↦ Is Assign | false ↦ Nothing ]
+        | true ↦ Some Helper
+        | false ↦ elim (same bs (ascii "assign")) [ true ↦ Some Assign | false ↦ None ]
       ]
     ]

@@ -7,7 +7,7 @@ use crate::{MOST_READ, WORK, file, refusal, say};
 use outline::ENTRY_WIDTH;
 use outline::index::index_input;
 use records::input::open_input;
-use records::{MOST_LONGEST, Opening, Wanted};
+use records::{MOST_LONGEST, Wanted};
 use std::io;
 use std::rt::Files;
 
@@ -23,12 +23,10 @@ pub fn check(
     f: usize,
 ) -> io::Result<()> {
     let mut input = [0u8; MOST_READ];
-    let c = file::read(rt, to, path, &mut input);
-    let len = c.len;
-    if c.read {
-        judge(rt, to, &input[..len], wanted, f)?;
+    match file::read(rt, to, path, &mut input) {
+        Some(bytes) => judge(rt, to, bytes, wanted, f),
+        None => Ok(()),
     }
-    Ok(())
 }
 
 // Prints that the bytes of a file are accepted and how many records they have, or the refusal.
@@ -40,8 +38,8 @@ fn judge(
     f: usize,
 ) -> io::Result<()> {
     match open_input(wanted, f, WORK, 0, input) {
-        Opening::Refused(refusal) => refusal::print(to, refusal, false, input.len() > f),
-        Opening::Accepted => {
+        Err(refusal) => refusal::print(to, refusal, false, input.len() > f),
+        Ok(()) => {
             let mut mem = [0u8; INDEX];
             let n = records_in(input, &mut mem);
             say::text(out, b"accepted: ")?;
@@ -61,6 +59,5 @@ fn records_in(input: &[u8], mem: &mut [u8; INDEX]) -> usize
     requires { length input.now ≤ most_longest }
     ensures { RecordsIn input.now result }
 {
-    let r = index_input(input, mem);
-    r.count
+    index_input(input, mem).count
 }

@@ -1,62 +1,53 @@
 // A file that an argument names, read into memory or written.
-ghost use Rattle.std.specs.Prelude.{◌≤◌, length};
+ghost use Rattle.std.specs.Prelude.{◌≤◌, length, IfSome, IfOk};
 
 use crate::say;
 use std::io::Read;
 use std::rt::Files;
 use std::{fs, io};
 
-// Whether a file was read, and how many of its bytes stand at the front of the buffer.
-#[derive(Clone, Copy)]
-pub struct Contents {
-    pub read: bool,
-    pub len: usize,
-}
-
-// Reads a file, as much of it as the buffer holds, or says that it cannot be read. What cannot be
-// written is dropped.
-pub fn read(rt: &impl Files, to: &impl Print, path: &[u8], input: &mut [u8]) -> Contents
-    ensures { result.len ≤ length input.old }
+// Reads a file into a buffer, as much of it as the buffer holds, or says that it cannot be read. What
+// cannot be written is dropped.
+pub fn read<'a>(
+    rt: &impl Files,
+    to: &impl Print,
+    path: &[u8],
+    input: &'a mut [u8],
+) -> Option<&'a [u8]>
+    ensures { IfSome result (λ bytes. length bytes.now ≤ length input.old) }
 {
-    let c = opened(rt, path, input);
-    if !c.read {
-        let _ = cannot(to, b"read ", path);
-    }
-    c
-}
-
-// Opens a file and reads it. A path that is no text names no file.
-fn opened(rt: &impl Files, path: &[u8], input: &mut [u8]) -> Contents
-    ensures { result.len ≤ length input.old }
-{
-    let Ok(path) = str::from_utf8(path) else {
-        return NOTHING;
-    };
-    match fs::open(rt, path) {
-        Ok(mut file) => fill(&mut file, input),
-        Err(_) => NOTHING,
+    match opened(rt, path, input) {
+        Some(len) => Some(&input[..len]),
+        None => {
+            let _ = cannot(to, b"read ", path);
+            None
+        }
     }
 }
 
-// What stands in a file that is not there.
-const NOTHING: Contents = Contents {
-    read: false,
-    len: 0,
-};
+// Opens a file and reads it: how many of its bytes stand at the front of the buffer. A path that is no
+// text names no file.
+fn opened(rt: &impl Files, path: &[u8], input: &mut [u8]) -> Option<usize>
+    ensures { IfSome result (λ len. len ≤ length input.old) }
+{
+    let path = str::from_utf8(path).ok()?;
+    let mut file = fs::open(rt, path).ok()?;
+    fill(&mut file, input).ok()
+}
 
 // Reads an open file up to its end, or as much of it as the buffer holds.
-fn fill(file: &mut impl Read, input: &mut [u8]) -> Contents
-    ensures { result.len ≤ length input.old }
+fn fill(file: &mut impl Read, input: &mut [u8]) -> io::Result<usize>
+    ensures { IfOk result (λ len. len ≤ length input.old) }
 {
     let mut len = 0;
     while len < input.len() {
-        match file.read(&mut input[len..]) {
-            Ok(0) => return Contents { read: true, len },
-            Ok(n) => len += n,
-            Err(_) => return Contents { read: false, len },
+        let n = file.read(&mut input[len..])?;
+        if n == 0 {
+            break;
         }
+        len += n;
     }
-    Contents { read: true, len }
+    Ok(len)
 }
 
 // Writes a file, made or emptied first, and answers whether it was written, or says that it cannot be.

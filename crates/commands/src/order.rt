@@ -14,7 +14,7 @@ use ordering::call::order_call;
 use ordering::{BINDING_LIMIT, NEED_LIMIT};
 use records::bodies::let_view;
 use records::input::open_input;
-use records::{COUNT_LIMIT, Opening, Wanted};
+use records::{COUNT_LIMIT, Wanted};
 use std::io;
 use std::rt::Files;
 
@@ -28,12 +28,10 @@ pub fn order(
     work: &mut [u8; WORK],
 ) -> io::Result<()> {
     let mut input = [0u8; MOST_READ];
-    let c = file::read(rt, to, path, &mut input);
-    let len = c.len;
-    if c.read {
-        ordered(rt, to, &input[..len], f, work)?;
+    match file::read(rt, to, path, &mut input) {
+        Some(s) => ordered(rt, to, s, f, work),
+        None => Ok(()),
     }
-    Ok(())
 }
 
 // Orders an assign, and prints what the call answers.
@@ -73,8 +71,8 @@ fn ordered(
 // input is opened once more, to say that an assign stands in it.
 fn told(to: &impl Print, s: &[u8], f: usize, row: &[u8], rounds: u64) -> io::Result<()> {
     match open_input(Wanted::Assign, f, WORK, 0, s) {
-        Opening::Refused(refusal) => refusal::print(to, refusal, false, s.len() > f),
-        Opening::Accepted => names(to, s, row, rounds),
+        Err(refusal) => refusal::print(to, refusal, false, s.len() > f),
+        Ok(()) => names(to, s, row, rounds),
     }
 }
 
@@ -105,13 +103,7 @@ fn bit(i: u8) -> u64 {
 
 // The indices of a row as bits.
 fn bits_of(row: &[u8]) -> u64 {
-    let mut bits = 0;
-    let mut k = 0;
-    while k < row.len() {
-        bits |= bit(row[k]);
-        k += 1;
-    }
-    bits
+    row.iter().fold(0, |bits, i| bits | bit(*i))
 }
 
 // Whether all that a binding needs is provided by the bindings `before`, given as bits.
@@ -137,18 +129,16 @@ fn print_ordered(
     let mut before = 0;
     let mut seen = 0;
     let mut column = 1;
-    let mut k = 0;
-    while k < row.len() {
-        let index = row[k] as usize;
+    for i in row {
+        let index = *i as usize;
         if !met(s, given, bodies, index, before) {
             before = seen;
             column += 1;
         }
-        seen |= bit(row[k]);
+        seen |= bit(*i);
         columns::mark(to, column, rounds)?;
         print_binding(to, s, given, index)?;
         say::text(to, b"\n")?;
-        k += 1;
     }
     Ok(())
 }

@@ -32,12 +32,10 @@ fn read(
     lines: &mut [u8; MOST_PAGE],
 ) -> io::Result<()> {
     let mut input = [0u8; MOST_READ];
-    let c = file::read(rt, to, path, &mut input);
-    let len = c.len;
-    if c.read {
-        print(rt, to, &input[..len], f, work, lines)?;
+    match file::read(rt, to, path, &mut input) {
+        Some(s) => print(rt, to, s, f, work, lines),
+        None => Ok(()),
     }
-    Ok(())
 }
 
 // Prints the page of a form, or the refusal.

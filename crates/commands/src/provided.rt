@@ -19,15 +19,13 @@ pub fn print_entry(to: &impl Print, s: &[u8], entry: usize) -> io::Result<()> {
 pub fn print(to: &impl Print, s: &[u8], given: &[usize], index: usize) -> io::Result<()> {
     let mut bindings = 0;
     let mut some = false;
-    let mut k = 0;
-    while k < given.len() {
-        if given[k] == 0 {
+    for entry in given {
+        if *entry == 0 {
             bindings += 1;
         } else if bindings > 0 && bindings - 1 == index {
-            print_entry(to, s, given[k])?;
+            print_entry(to, s, *entry)?;
             some = true;
         }
-        k += 1;
     }
     if !some {
         say::text(to, b" no name")?;

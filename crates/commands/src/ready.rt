@@ -16,13 +16,10 @@ pub fn ready(s: &[u8], given: &[usize], body: usize, before: u64) -> bool
     }
     let mut needs = [0u64; NEED_LIMIT];
     let r = body_needs(s, given, &s[body..], &mut needs, 0);
-    let count = r.count;
-    let mut k = 0;
-    while k < count {
+    for k in 0..r.count {
         if needs[k] & before == 0 {
             return false;
         }
-        k += 1;
     }
     true
 }

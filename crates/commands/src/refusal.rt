@@ -1,14 +1,10 @@
 // Refusals in words.
-ghost use Rattle.std.specs.Prelude.{◌≡◌, ◌≤◌, length, take};
+ghost use Rattle.std.specs.Prelude.{◌≡◌};
 ghost use Rattle.commands.specs.Refusals.{refusal_words, words_place, words_text};
 
 use crate::say;
 use names::Refusal;
-use names::bytes::put;
 use std::io;
-
-// The most bytes that the words of a refusal take.
-const LINE: usize = 64;
 
 // What a refusal means.
 #[derive(Clone, Copy)]
@@ -80,35 +76,22 @@ fn place_of(words: Words) -> Shown
     }
 }
 
-// Writes words at the front of a line, and answers how many bytes they are.
-fn line(out: &mut [u8; LINE], words: &[u8]) -> usize
-    requires { length words.now ≤ 64 }
-    ensures { (result ≤ length out.new) × (take result out.new ≡ words.now) }
-{
-    put(out, 0, words);
-    words.len()
-}
-
-// Writes the words themselves at the front of a line, and answers how many bytes they are.
-fn text_of(words: Words, out: &mut [u8; LINE]) -> usize
-    ensures { (result ≤ length out.new) × (take result out.new ≡ words_text words) }
+// The words themselves.
+#[tactic(auto, unfolding(names::specs::Names::ascii))]
+fn text_of(words: Words) -> &'static [u8]
+    ensures { result.now ≡ words_text words }
 {
     match words {
-        Words::CounterAbove => line(out, b"the counter is above 4294967295"),
-        Words::LongestOutside => line(out, b"F is not from 64 to 16384"),
-        Words::NotOneRecord => {
-            line(
-                out,
-                b"the input is not exactly one record of the kind asked for",
-            )
-        }
-        Words::LongInput => line(out, b"the input is longer than F"),
-        Words::PastLimit => line(out, b"a limit of the format is passed"),
-        Words::ModInBinding => line(out, b"a binding body of an assign has a BM in it"),
-        Words::NoOrder => line(out, b"the bindings of the assign have no order"),
-        Words::LongName => line(out, b"a made name would be longer than 255 bytes"),
-        Words::LongRecord => line(out, b"a record would be longer than F"),
-        Words::ShortBuffer => line(out, b"the result buffer is too short"),
+        Words::CounterAbove => b"the counter is above 4294967295",
+        Words::LongestOutside => b"F is not from 64 to 16384",
+        Words::NotOneRecord => b"the input is not exactly one record of the kind asked for",
+        Words::LongInput => b"the input is longer than F",
+        Words::PastLimit => b"a limit of the format is passed",
+        Words::ModInBinding => b"a binding body of an assign has a BM in it",
+        Words::NoOrder => b"the bindings of the assign have no order",
+        Words::LongName => b"a made name would be longer than 255 bytes",
+        Words::LongRecord => b"a record would be longer than F",
+        Words::ShortBuffer => b"the result buffer is too short",
     }
 }
 
@@ -116,12 +99,10 @@ fn text_of(words: Words, out: &mut [u8; LINE]) -> usize
 pub fn print(to: &impl Print, refusal: Refusal, above: bool, long: bool) -> io::Result<()> {
     let number = refusal.number;
     let words = words_of(number, above, long);
-    let mut out = [0u8; LINE];
-    let n = text_of(words, &mut out);
     say::text(to, b"refused ")?;
     say::number(to, number as u64)?;
     say::text(to, b": ")?;
-    say::text(to, &out[..n])?;
+    say::text(to, text_of(words))?;
     match place_of(words) {
         Shown::Nothing => {}
         Shown::Offset => {

@@ -1,4 +1,6 @@
 // Words and numbers, written to an output.
+ghost use Rattle.std.specs.Prelude.{◌≡◌};
+
 use outline::page::visible;
 use std::io;
 
@@ -14,14 +16,30 @@ pub fn number(to: &impl Print, n: u64) -> io::Result<()> {
 
 // Writes a name: bytes that are no visible character as `.`, and an empty name as `(empty)`.
 pub fn name(to: &impl Print, bytes: &[u8]) -> io::Result<()> {
-    if bytes.len() == 0 {
+    if bytes.is_empty() {
         text(to, b"(empty)")?;
     }
     for byte in bytes {
-        let shown = visible(*byte);
-        text(to, &[shown; 1])?;
+        text(to, &[visible(*byte)])?;
     }
     Ok(())
+}
+
+// The value that an argument gives; where it gives none, which argument is wrong is said. What cannot
+// be written is dropped.
+pub fn expected<T>(
+    to: &impl Print,
+    value: Option<T>,
+    argument: &[u8],
+    expected: &[u8],
+    got: &[u8],
+) -> Option<T>
+    ensures { result ≡ value }
+{
+    if value.is_none() {
+        let _ = wrong(to, argument, expected, got);
+    }
+    value
 }
 
 // Says which argument is wrong, what was expected, and what it is.

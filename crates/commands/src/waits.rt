@@ -47,10 +47,9 @@ fn missing(s: &[u8], given: &[usize], k: usize, stuck: u64) -> bool
 pub fn print(to: &impl Print, s: &[u8], given: &[usize], body: usize, stuck: u64) -> io::Result<()>
     requires { Given s.now given.now }
 {
-    for k in 0..given.len() {
-        let e = given[k];
-        if e != 0 && missing(s, given, k, stuck) && has_word(s, body, e) {
-            print_entry(to, s, e)?;
+    for (k, entry) in given.iter().enumerate() {
+        if *entry != 0 && missing(s, given, k, stuck) && has_word(s, body, *entry) {
+            print_entry(to, s, *entry)?;
         }
     }
     Ok(())

@@ -1,7 +1,8 @@
 -- What a linked function answers, as numbers.
 -- Assumes nothing.
+use Rattle.std.specs.Prelude.{Result as Res, Ok, Err}
 use Rattle.std.specs.Prelude.{List, ◌≡◌, ℕ, zero, suc, ◌*◌, length, get_or}
-use Rattle.names.specs.CallAnswer.{Result}
+use Rattle.names.specs.CallAnswer.{CallResult}
 use Rattle.names.specs.Names.{Bytes}
 use Rattle.names.specs.Refusals.{place_at, refusing, placeless, no_refusal}
 use Rattle.names.specs.declared.Answer.{Answer}
@@ -9,8 +10,6 @@ use Rattle.names.specs.declared.Refusal.{Refusal}
 use Rattle.records.specs.Limits.{most_longest, work_factor}
 use Rattle.records.specs.Opened.{open_input}
 use Rattle.records.specs.Scan.{wanted_reader, opening_of}
-use Rattle.records.specs.declared.Opening.{Opening}
-use Rattle.records.specs.declared.Opening.TheVariants.{Accepted, Refused}
 use Rattle.records.specs.declared.Wanted.{Wanted}
 use Rattle.records.specs.declared.Wanted.TheVariants.{Form, Helper, Assign}
 
@@ -27,13 +26,13 @@ abbrev pub refusal_in : ℕ → List ℕ → Refusal
 refusal_in n told = (answer_in n told).refusal
 
 -- a linked function hands a call on: what it tells, and the result buffer as it leaves it, are the result of the call on what it is given
-abbrev pub Hands : (ℕ → ℕ → ℕ → Bytes → Bytes → Result) → ℕ → Bytes → ℕ → Bytes → Bytes → ℕ → List ℕ → Bytes → Type 0
+abbrev pub Hands : (ℕ → ℕ → ℕ → Bytes → Bytes → CallResult) → ℕ → Bytes → ℕ → Bytes → Bytes → ℕ → List ℕ → Bytes → Type 0
 Hands call f work counter input before n told after = (answer_in n told, after) ≡ call f (length work) counter input before
 
 -- the refusal of an input, or none
-abbrev pub refusal_of : Opening → Refusal
-refusal_of Accepted = no_refusal
-refusal_of (Refused r) = r
+abbrev pub refusal_of : Res (Unit {0}) Refusal → Refusal
+refusal_of (Ok u) = no_refusal
+refusal_of (Err r) = r
 
 -- the refusal of an input of which this record is wanted, with work memory and a counter that every F allows
 unfoldable pub read_as : Wanted → ℕ → Bytes → Refusal

@@ -6,16 +6,15 @@ ghost use Rattle.exports.specs.Linked.{read_as, read_call};
 use names::Refusal;
 use names::refusals::{no_refusal, placeless};
 use records::input::open_input;
-use records::{MOST_LONGEST, Opening, WORK_FACTOR, Wanted};
+use records::{MOST_LONGEST, WORK_FACTOR, Wanted};
 
 // Reads an input of which a record is wanted.
 fn read_as(wanted: Wanted, f: usize, input: &[u8]) -> Refusal
     ensures { result ≡ read_as wanted f input.now }
 {
-    let opening = open_input(wanted, f, WORK_FACTOR * MOST_LONGEST, 0, input);
-    match opening {
-        Opening::Accepted => no_refusal(),
-        Opening::Refused(refusal) => refusal,
+    match open_input(wanted, f, WORK_FACTOR * MOST_LONGEST, 0, input) {
+        Ok(()) => no_refusal(),
+        Err(refusal) => refusal,
     }
 }
 

@@ -96,10 +96,10 @@ alike_none a b size = record {
 }
 
 -- all their bytes are alike: they are equal
-pub found_same : {a b : Bytes} {n : ℕ} → Alike a b n → n ≡ length a → record { equal = true; pairs = n } ≡ comparison a b
+pub found_same : {a b : Bytes} {n : ℕ} → Alike a b n → length a ≤ n → record { equal = true; pairs = length a } ≡ comparison a b
 found_same {a} {b} {n} h all =
     let za : length a - n ≡ 0 = omega arith in
-    let zb : length b - n ≡ 0 = omega arith in
+    let zb : length b - n ≡ 0 = omega (arith, h.size) in
     let e : a ≡ b = rw (za, zb) at h.ending in
     let t : same a b ≡ true = rw (← e) (same_self a) in
     cc (t, pairs_same h.size (whole_longest a b (record { front = []; is = e })) t)

@@ -5,8 +5,8 @@ use native.Mathlib.Nat.{div-add-mod, div-one, mul_assoc, mul-add, pow-le-pow_rig
 use native.Mathlib.Numerals.{add-one}
 use native.Mathlib.Omega.{arith}
 use Prim.Native.Nat.{ℕ, zero, suc, ◌+◌, ◌*◌, ◌/◌, ◌%◌, ◌^◌, ◌-◌, ◌≤◌, ◌<◌}
-use lib.ListN.{length, take, drop, length-append, length-drop}
-use lib.Seq.{drop_at, drop-append_seam, drop-drop, take-append_seam, take_at}
+use lib.ListN.{length, take, drop, get_or, length-append, length-drop}
+use lib.Seq.{drop_at, drop-append_seam, drop-drop, get_or-drop, get_or-take, take-append_seam, take_at, take-suc}
 use Rattle.names.specs.Segments.{Filled}
 use Rattle.names.proofs.Segments.{filled_then}
 use Rattle.names.specs.Names.{Bytes, number_field, number_after, number_of, name_field, name_width}
@@ -24,6 +24,16 @@ number_of_more bs b = number_after_more bs b 0
 -- how large it is then
 pub number_bound : (n b i : ℕ) → n < 256 ^ i → b < 256 → 256 * n + b < 256 ^ (i + 1)
 number_bound n b i ln lb = rw add-one (omega (arith, pow-suc 256 i))
+
+-- one more of the `width` bytes at a place is read
+pub number_read : (s : Bytes) (at width : ℕ) {n i : ℕ} → at + width ≤ length s → ((j : ℕ) → get_or s j 0 < 256)
+    → (n ≡ number_of (take i (drop at s))) × (n < 256 ^ i) → i < width
+    → (256 * n + get_or (take (at + width - at) (drop at s)) i 0 ≡ number_of (take (i + 1) (drop at s))) × (256 * n + get_or (take (at + width - at) (drop at s)) i 0 < 256 ^ (i + 1))
+number_read s at width {n} {i} fit bytes h lt =
+    let d = drop at s in
+    let l : length d ≡ length s - at = length-drop at s in
+    let b : get_or (take (at + width - at) d) i 0 ≡ get_or s (at + i) 0 = get_or-take (at + width - at) d i 0 (omega arith) ∙ get_or-drop at s i 0 in
+    rw b (rw (add-one, take-suc d i 0 (omega arith), get_or-drop, number_of_more, ← h.0) refl, number_bound n _ i h.1 (bytes (at + i)))
 
 pub number_fits : (i : ℕ) → i ≤ 8 → 256 ^ i ≤ 2 ^ 64
 number_fits i le = pow-le-pow_right (omega arith) le

@@ -4,9 +4,10 @@ use mathlib.Core.List.{[], ◌∷◌, ◌++◌, append_assoc}
 use native.Mathlib.Nat.{zero-add}
 use native.Mathlib.Numerals.{add-one}
 use native.Mathlib.Omega.{arith}
-use Prim.Native.Nat.{ℕ, suc, ◌+◌, ◌≤◌, ◌<◌}
+use Prim.Native.Nat.{ℕ, suc, ◌+◌, ◌-◌, ◌≤◌, ◌<◌}
 use lib.ListN.{length, take, drop, get_or, set, length-append, take-append-drop}
 use lib.Seq.{drop-append-add, drop_at, drop-drop, drop-paste, length-paste, length-take-le, paste, set_at, take-add, take-append_seam, take_at, take-length, take-suc}
+use borrow.Rule.Slice.PartMut.{put_mid}
 use Rattle.names.specs.CallAnswer.{written}
 use Rattle.names.specs.Names.{Bytes}
 use Rattle.names.specs.Segments.{Filled}
@@ -63,3 +64,10 @@ filled_then {xs} {ys} {zs} {q} {p} {us} {vs} f g e fit =
 pub filled_written : {xs ys vs : Bytes} → Filled xs ys 0 vs (length vs) → ys ≡ written vs xs
 unfolding written
 filled_written {xs} {ys} {vs} f = filled_placed vs f ∙ rw zero-add
+
+-- a part of the length of vs is overwritten by it
+pub pasted : {xs vs ys : Bytes} {q : ℕ} → q + length vs ≤ length xs → ys ≡ vs → Filled xs (put_mid q (q + length vs - q) xs ys) q vs (length vs)
+pasted {xs} {vs} {ys} {q} fit e =
+    let n : q + length vs - q ≡ length vs = omega arith in
+    let is : put_mid q (q + length vs - q) xs ys ≡ placed xs q vs = rw (n, e, drop-drop) (sym (append_assoc (take q xs) vs (drop (q + length vs) xs))) in
+    rw is (placed_filled xs q vs fit)

@@ -6,8 +6,8 @@ use Rattle.names.specs.Names.{Bytes, name_limit, gensym}
 use Rattle.names.specs.Refusals.{Refusal, placeless, no_refusal}
 
 -- the answer, and the result buffer as the call leaves it
-abbrev pub Result : Type 0
-Result = Answer × Bytes
+abbrev pub CallResult : Type 0
+CallResult = Answer × Bytes
 
 -- written at the front; no byte past it changes
 unfoldable pub written : Bytes → Bytes → Bytes
@@ -20,11 +20,11 @@ accepted_answer c rounds len = record { refusal = no_refusal; counter = c; round
 -- a call's counter and result buffer as given
 module _ (counter : ℕ) (buffer : Bytes) where
   -- a refusal; all else as found
-  unfoldable pub refused_answer : Refusal → Result
+  unfoldable pub refused_answer : Refusal → CallResult
   refused_answer r = (record { refusal = r; counter = counter; rounds = 0; len = 0 }, buffer)
 
   -- a result of a new counter c, if it fits, or 8
-  unfoldable pub delivered : Bytes → ℕ → Result
+  unfoldable pub delivered : Bytes → ℕ → CallResult
   delivered bs c =
       elim (leb (length bs) (length buffer)) [
         | true ↦ (accepted_answer c 0 (length bs), written bs buffer)
@@ -36,7 +36,7 @@ abbrev pub max_counter : ℕ
 max_counter = 4294967295
 
 -- the call Name: 1 a counter above its limit, 6 a made name that is too long, 8 a buffer that is too short
-unfoldable pub name_call : Bytes → ℕ → Bytes → Result
+unfoldable pub name_call : Bytes → ℕ → Bytes → CallResult
 name_call n c buffer =
     elim (leb c max_counter) [
       | false ↦ refused_answer c buffer (placeless 1)

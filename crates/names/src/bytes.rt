@@ -17,8 +17,7 @@ pub fn compare(a: &[u8], b: &[u8]) -> Compared
             pairs: 0,
         };
     }
-    let mut ending = 0;
-    while ending < len {
+    for ending in 0..len {
         let i = len - 1 - ending;
         if a[i] != b[i] {
             return Compared {
@@ -26,11 +25,10 @@ pub fn compare(a: &[u8], b: &[u8]) -> Compared
                 pairs: ending + 1,
             };
         }
-        ending += 1;
     }
     Compared {
         equal: true,
-        pairs: ending,
+        pairs: len,
     }
 }
 
@@ -61,11 +59,7 @@ pub fn put(out: &mut [u8], at: usize, src: &[u8])
     requires { at + length src.now ≤ length out.old }
     ensures { Filled out.old out.new at src.now (length src.now) }
 {
-    let mut i = 0;
-    while i < src.len() {
-        out[at + i] = src[i];
-        i += 1;
-    }
+    out[at..at + src.len()].copy_from_slice(src);
 }
 
 // The number that `width` bytes at a place stand for.
@@ -75,24 +69,18 @@ pub fn number(s: &[u8], at: usize, width: usize) -> usize
     ensures upper_bound { result < 256 ^ width }
 {
     let mut n = 0;
-    let mut i = 0;
-    while i < width {
-        n = 256 * n + s[at + i] as usize;
-        i += 1;
+    for byte in &s[at..at + width] {
+        n = 256 * n + *byte as usize;
     }
     n
 }
 
-// Copies n bytes to another place, the first byte first.
+// Copies n bytes to another place.
 pub fn copy(mem: &mut [u8], from: usize, to: usize, n: usize)
     requires { Movable mem.old from to n }
     ensures { Filled mem.old mem.new to (drop from mem.old) n }
 {
-    let mut i = 0;
-    while i < n {
-        mem[to + i] = mem[from + i];
-        i += 1;
-    }
+    mem.copy_within(from..from + n, to);
 }
 
 // Writes a number in `width` bytes at a place, the last byte first.
@@ -101,10 +89,8 @@ pub fn put_number(mem: &mut [u8], at: usize, width: usize, n: usize)
     ensures { Filled mem.old mem.new at (number_field width n) width }
 {
     let mut left = n;
-    let mut done = 0;
-    while done < width {
-        done += 1;
-        mem[at + width - done] = (left % 256) as u8;
+    for i in (at..at + width).rev() {
+        mem[i] = (left % 256) as u8;
         left /= 256;
     }
 }

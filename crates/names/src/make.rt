@@ -25,13 +25,10 @@ fn put_decimal(out: &mut [u8], at: usize, n: u64)
     ensures { Filled out.old out.new at (decimal n) (length (decimal n)) }
 {
     let mut left = n;
-    let mut last = at + digit_count(n) - 1;
-    while left >= 10 {
-        out[last] = b'0' + (left % 10) as u8;
+    for i in (at..at + digit_count(n)).rev() {
+        out[i] = b'0' + (left % 10) as u8;
         left /= 10;
-        last -= 1;
     }
-    out[last] = b'0' + left as u8;
 }
 
 // The length of the name that `gensym` makes.

@@ -1,7 +1,8 @@
 -- The names listed of a pattern, a binding and a body, from those listed of its parts. Assumes nothing.
 use mathlib.Core.Bool.{true, false}
 use mathlib.Core.List.{List, [], ◌∷◌, flatten, append-nil}
-use mathlib.Core.Path.{◌≡◌, refl, sym, ap, ◌∙◌}
+use mathlib.Core.Logic.{◌⊎◌, ⊎_elim}
+use mathlib.Core.Path.{◌≡◌, refl, sym, ap, subst, ◌∙◌}
 use Prim.Native.Nat.{ℕ, ◌+◌, ◌-◌, ◌≤◌}
 use native.Mathlib.Nat.{zero-add}
 use native.Mathlib.Omega.{arith}
@@ -13,7 +14,9 @@ use Rattle.names.proofs.Places.{at_is, at_left}
 use Rattle.records.specs.Depth.{depth, levels, tail_depth, binding_depth}
 use Rattle.records.specs.Read.{kind_of}
 use Rattle.records.specs.Records.{mark_width, loc_width, byte, Sexp, sexp_bytes, Pattern, Name, Complex, pattern_field, Body, BL, BQ, BV, BC, BM, BF, body_bytes, Bodies, Tail, no_tail, tail, tail_bytes, Binding, BB, binding_bytes}
-use Rattle.records.specs.Scan.{mark_index, body_marks}
+use Rattle.std.specs.declared.option.Option.TheVariants.{Some, None}
+use Rattle.records.specs.Scan.{mark_index, body_marks, body_mark_at}
+use Rattle.records.specs.declared.BodyMark.TheVariants.{Mod}
 use Rattle.records.specs.Sexps.{truthy}
 use Rattle.records.specs.Valid.{SexpFields, ValidPattern, BodyFields, TailFields, BindingFields, lambda_depth, tail_lambda_depth, binding_lambda_depth, ValidBody}
 use Rattle.records.specs.declared.Family.TheVariants.{Body as a_Body, Binding as a_binding}
@@ -222,20 +225,24 @@ module _ {s : Bytes} where
   index_of (BM l f) z = ap (λ (x : Bytes). mark_index x body_marks) (mark_of "BM" _ refl z)
   index_of (BF l w ca cs t b) z = ap (λ (x : Bytes). mark_index x body_marks) (mark_of "BF" _ refl z)
 
-  module _ {a : Bytes} {ps : List ℕ} {k : ℕ} (e : k ≡ mark_index (take 2 (drop 0 s)) body_marks) where
-    pub body_lists : {l l' : List ℕ} {n i : ℕ} {r : Listed} → k ≡ i → Reaches 0 (kind_part i) words a ps s 0 l l' n r → Lists (family_part a_Body) words a ps s 0 l l' n r
-    body_lists q f = lists_of (omega arith) f.within f.room (λ t v z. f.tells (omega arith) t (sym (index_of t z) ∙ sym e ∙ q, v) z)
+  module _ {a : Bytes} {ps : List ℕ} where
+    pub body_lists : {l l' : List ℕ} {n i : ℕ} {r : Listed} → i ≡ mark_index (take 2 (drop 0 s)) body_marks → Reaches 0 (kind_part i) words a ps s 0 l l' n r
+        → Lists (family_part a_Body) words a ps s 0 l l' n r
+    body_lists q f = lists_of (omega arith) f.within f.room (λ t v z. f.tells (omega arith) t (sym (index_of t z) ∙ sym q, v) z)
 
     -- a BM, whose names are not asked for, or no body
-    pub skip_lists : {l : List ℕ} {n r : ℕ} → (((((Unit {0} × (k ≡ 0 → ⊥)) × (k ≡ 1 → ⊥)) × (k ≡ 2 → ⊥)) × (k ≡ 3 → ⊥)) × (k ≡ 5 → ⊥)) → Skips (family_part a_Body) s r → n ≤ length l
-        → Lists (family_part a_Body) words a ps s 0 l l n (record { count = n; end = r })
+    pub skip_lists : {l : List ℕ} {n r : ℕ} → let k = mark_index (take 2 (drop 0 s)) body_marks in (Some Mod ≡ body_mark_at k) ⊎ (None ≡ body_mark_at k)
+        → Skips (family_part a_Body) s r → n ≤ length l → Lists (family_part a_Body) words a ps s 0 l l n (record { count = n; end = r })
     unfolding words
-    skip_lists {l} {n} {r} q f h = lists_of (omega arith) f.within h (λ t v z. (f.skips t v z ∙ sym (zero-add _), go t (e ∙ index_of t z)))
+    skip_lists {l} {n} {r} q f h = lists_of (omega arith) f.within h (λ t v z. (f.skips t v z ∙ sym (zero-add _), go t (subst Other (index_of t z) q)))
       where
-        go : (t : Body) → k ≡ body_index t → Names (words t) a ps l l n n
-        go (BL k y w h bs b) z = absurd (q.0.0.0.0.1 z)
-        go (BQ b) z = absurd (q.0.0.0.1 z)
-        go (BV b) z = absurd (q.0.0.1 z)
-        go (BC y bs t) z = absurd (q.0.1 z)
-        go (BM y b) z = names_none h
-        go (BF y w ca cs b b') z = absurd (q.1 z)
+        Other : ℕ → Type 0
+        Other k = (Some Mod ≡ body_mark_at k) ⊎ (None ≡ body_mark_at k)
+
+        go : (t : Body) → Other (body_index t) → Names (words t) a ps l l n n
+        go (BL k y w h bs b) o = ⊎_elim (λ e. cc) (λ e. cc) o
+        go (BQ b) o = ⊎_elim (λ e. cc) (λ e. cc) o
+        go (BV b) o = ⊎_elim (λ e. cc) (λ e. cc) o
+        go (BC y bs t) o = ⊎_elim (λ e. cc) (λ e. cc) o
+        go (BM y b) o = names_none h
+        go (BF y w ca cs b b') o = ⊎_elim (λ e. cc) (λ e. cc) o

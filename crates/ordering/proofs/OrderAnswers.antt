@@ -8,7 +8,7 @@ use native.Mathlib.Omega.{arith}
 use lib.Dec.{leb}
 use lib.ListN.{length, take, drop, length-append}
 use lib.Seq.{take-append_seam}
-use Rattle.names.specs.CallAnswer.{Result, refused_answer, written}
+use Rattle.names.specs.CallAnswer.{CallResult, refused_answer, written}
 use Rattle.names.specs.Names.{Bytes}
 use Rattle.names.specs.Refusals.{place_at, placeless}
 use Rattle.names.specs.declared.Refusal.{Refusal}
@@ -37,14 +37,14 @@ module _ (is buffer : Bytes) where
 
 module _ (c : ℕ) (buffer : Bytes) where
   -- what holds of each of the three answers for an assign that is read
-  of_read : (P : Result → Type 0) (a : Body) → P (refused_answer c buffer (placeless 8))
+  of_read : (P : CallResult → Type 0) (a : Body) → P (refused_answer c buffer (placeless 8))
       → ((is : List ℕ) → toposort_assign_bindings (bindings_of a) ≡ ordered is → P (order_answer c buffer (rounds (items (bindings_of a))) is))
       → ((is : List ℕ) → toposort_assign_bindings (bindings_of a) ≡ deadlock is → P (stuck_answer c (place_at (loc_number (let_loc a))) buffer is))
       → P (order_of c buffer a)
   unfolding order_of
   of_read P a short found stuck = go (leb (length (bindings_of a)) (length buffer))
     where
-      by_outcome : Toposorted → Result
+      by_outcome : Toposorted → CallResult
       by_outcome o =
           elim o [
             | deadlock is ↦ stuck_answer c (place_at (loc_number (let_loc a))) buffer is
@@ -56,18 +56,18 @@ module _ (c : ℕ) (buffer : Bytes) where
       go₂ (ordered is) e = found is e
 
       go : (b : Bool)
-          → P (elim b as (λ _. Result) [ false ↦ refused_answer c buffer (placeless 8) | true ↦ by_outcome (toposort_assign_bindings (bindings_of a)) ])
+          → P (elim b as (λ _. CallResult) [ false ↦ refused_answer c buffer (placeless 8) | true ↦ by_outcome (toposort_assign_bindings (bindings_of a)) ])
       go true = go₂ (toposort_assign_bindings (bindings_of a)) refl
       go false = short
 
   -- and of every answer of the call
-  of_call : (P : Result → Type 0) (F work : ℕ) (input : Bytes) → ((r : Refusal) → 1 ≤ r.number → r.number ≤ 4 → P (refused_answer c buffer r))
+  of_call : (P : CallResult → Type 0) (F work : ℕ) (input : Bytes) → ((r : Refusal) → 1 ≤ r.number → r.number ≤ 4 → P (refused_answer c buffer r))
       → ((a : Body) → open_input assign_of F work c input ≡ opened a → P (order_of c buffer a)) → P (order_call F work c input buffer)
   unfolding order_call
   of_call P F work input refused read = go (open_input assign_of F work c input) refl (start assign_of F work c input)
     where
       go : (o : Opened Body) → open_input assign_of F work c input ≡ o → Start assign_of F work c input o
-          → P (elim o as (λ _. Result) [ closed r ↦ refused_answer c buffer r | opened a ↦ order_of c buffer a ])
+          → P (elim o as (λ _. CallResult) [ closed r ↦ refused_answer c buffer r | opened a ↦ order_of c buffer a ])
       go (closed r) e s = refused r s.0 s.1
       go (opened a) e s = read a e
 
@@ -109,7 +109,7 @@ module _ (F work c : ℕ) (input buffer : Bytes) where
       (λ a e. let v = opened_valid assign_format F work c input a ok e in read_means c buffer a (record { valid = v.0; is = v.2 }))
 
   -- so an answer that is the call's means what it says
-  pub answer_means : {r : Result} → AreBytes input → r ≡ order_call F work c input buffer → (r ≡ order_call F work c input buffer) × OrderMeans input r
+  pub answer_means : {r : CallResult} → AreBytes input → r ≡ order_call F work c input buffer → (r ≡ order_call F work c input buffer) × OrderMeans input r
   answer_means ok e = (e, rw e (order_means ok))
 
 -- the assign that an answer speaks of is the only one that the input is

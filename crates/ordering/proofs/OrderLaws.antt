@@ -6,7 +6,7 @@ use native.Mathlib.Omega.{arith}
 use borrow.Author.Tests.{le-leb, lt-leb, le-ltb, lt-ltb}
 use lib.ListN.{length, take, drop}
 use lib.Seq.{length-take-le}
-use Rattle.names.specs.CallAnswer.{Result, refused_answer, accepted_answer}
+use Rattle.names.specs.CallAnswer.{CallResult, refused_answer, accepted_answer}
 use Rattle.names.specs.Names.{Bytes, number_of}
 use Rattle.names.specs.Refusals.{place_at, refusing, placeless}
 use Rattle.names.specs.declared.Place.{Place}
@@ -20,7 +20,7 @@ use Rattle.records.specs.Read.{assign_of}
 use Rattle.records.specs.Records.{Loc, loc_width, loc_number, Kind, Body, BL, BQ, BV, BC, BM, BF, Binding, Bindings, list_of, body_bytes}
 use Rattle.records.specs.Scan.{opening_of}
 use Rattle.records.specs.Valid.{AreBytes, BodyFields, IsLet, ValidAssign}
-use Rattle.records.specs.declared.Opening.TheVariants.{Accepted, Refused}
+use Rattle.std.specs.Prelude.{Ok, Err}
 use Rattle.records.proofs.Accepted.{assign_format, opened_valid}
 use Rattle.records.proofs.Opened.{OpenedFrom, start}
 use Rattle.records.specs.Views.{SeesLet}
@@ -94,7 +94,7 @@ module _ {s : Bytes} {v : LetView} {k : Kind} {l : Loc} {w h : Bytes} {bs : Bind
   loc_is = ap number_of (at_is v.loc loc_width refl (sym t.valid.0.0.width) loc_at)
 
   -- the answers are those of the definition
-  module _ (c : ℕ) (buffer : Bytes) {o : Order} {a : Result} (g : OrdersBindings (list_of bs) o) (fits : v.count ≤ length buffer) where
+  module _ (c : ℕ) (buffer : Bytes) {o : Order} {a : CallResult} (g : OrdersBindings (list_of bs) o) (fits : v.count ≤ length buffer) where
     pub answer_stuck : {place : Place} → o.placed < o.count → place ≡ place_at (number_of (take loc_width (drop v.loc s))) → a ≡ stuck_answer c place buffer (take (o.count - o.placed) (drop o.placed o.row))
         → a ≡ order_of c buffer (BL k l w h bs b)
     answer_stuck lt p e =
@@ -105,11 +105,11 @@ module _ {s : Bytes} {v : LetView} {k : Kind} {l : Loc} {w h : Bytes} {bs : Bind
         e ∙ ap (λ (n : ℕ). order_answer c buffer n (take o.count o.row)) g.rounds ∙ sym (order_found c buffer k l w h bs b _ (omega (arith, let_count)) (found_is g le))
 
 -- an input that is refused before any work
-pub call_refused : (F work c : ℕ) (input buffer : Bytes) (r : Refusal) → Refused r ≡ opening_of (open_input assign_of F work c input) → order_call F work c input buffer ≡ refused_answer c buffer r
+pub call_refused : (F work c : ℕ) (input buffer : Bytes) (r : Refusal) → Err r ≡ opening_of (open_input assign_of F work c input) → order_call F work c input buffer ≡ refused_answer c buffer r
 unfolding order_call
 call_refused F work c input buffer r e = go (open_input assign_of F work c input) e
   where
-    go : (o : Opened Body) → Refused r ≡ opening_of o → elim o as (λ _. Result) [ closed q ↦ refused_answer c buffer q | opened a ↦ order_of c buffer a ] ≡ refused_answer c buffer r
+    go : (o : Opened Body) → Err r ≡ opening_of o → elim o as (λ _. CallResult) [ closed q ↦ refused_answer c buffer q | opened a ↦ order_of c buffer a ] ≡ refused_answer c buffer r
     go (opened a) q = cc
     go (closed p) q = cc
 
@@ -122,7 +122,7 @@ pub record Taken (F work c : ℕ) (input buffer : Bytes) (k : Kind) (l : Loc) (w
 abbrev pub TakenSome : ℕ → ℕ → ℕ → Bytes → Bytes → Type 0
 TakenSome F work c input buffer = (k : Kind) × (l : Loc) × (w : Bytes) × (h : Bytes) × (bs : Bindings) × (b : Body) × Taken F work c input buffer k l w h bs b
 
-pub call_taken : (F work c : ℕ) (input buffer : Bytes) → AreBytes input → Accepted ≡ opening_of (open_input assign_of F work c input)
+pub call_taken : (F work c : ℕ) (input buffer : Bytes) → AreBytes input → Ok tt ≡ opening_of (open_input assign_of F work c input)
     → TakenSome F work c input buffer
 unfolding order_call IsLet
 call_taken F work c input buffer ok e = go (open_input assign_of F work c input) refl e
@@ -136,7 +136,7 @@ call_taken F work c input buffer ok e = go (open_input assign_of F work c input)
     go₂ (BM l f) q (v, i) le = absurd v.0
     go₂ (BF l w ca d a b) q (v, i) le = absurd v.0
 
-    go : (o : Opened Body) → open_input assign_of F work c input ≡ o → Accepted ≡ opening_of o → TakenSome F work c input buffer
+    go : (o : Opened Body) → open_input assign_of F work c input ≡ o → Ok tt ≡ opening_of o → TakenSome F work c input buffer
     go (opened a) q z =
         let u = opened_valid assign_format F work c input a ok q in
         let st : OpenedFrom assign_of F c input a = rw q at (start assign_of F work c input) in

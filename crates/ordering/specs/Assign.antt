@@ -1,7 +1,7 @@
 -- What the code promises that orders the bindings of an assign.
 -- Assumes nothing.
 use Rattle.std.specs.Prelude.{List, [], ◌∷◌, ◌≡◌, ℕ, ◌+◌, ◌≤◌, ◌<◌, length, get_or, take}
-use Rattle.names.specs.CallAnswer.{Result}
+use Rattle.names.specs.CallAnswer.{CallResult}
 use Rattle.names.specs.Names.{Bytes}
 use Rattle.names.specs.Segments.{At}
 use Rattle.records.specs.Records.{Loc, SN, Kind, Pattern, Name, Body, BL, BV, body_bytes, Binding, BB, binding_bytes, Bindings, list_of}
@@ -112,5 +112,5 @@ abbrev pub OrdersLet : Bytes → Order → Type 0
 OrdersLet s r = (k : Kind) (l : Loc) (w h : Bytes) (bs : Bindings) (b : Body) → Let s k l w h bs b → OrdersBindings (list_of bs) r
 
 -- r is the answer of the call Order for every let that stands at the start of s
-abbrev pub AnswersLet : Bytes → ℕ → Bytes → Result → Type 0
+abbrev pub AnswersLet : Bytes → ℕ → Bytes → CallResult → Type 0
 AnswersLet s c buffer r = (k : Kind) (l : Loc) (w h : Bytes) (bs : Bindings) (b : Body) → Let s k l w h bs b → r ≡ order_of c buffer (BL k l w h bs b)

@@ -1,7 +1,7 @@
 -- The call Order.
 -- Assumes nothing.
 use Rattle.std.specs.Prelude.{true, false, List, [], ℕ, leb, length}
-use Rattle.names.specs.CallAnswer.{Result, written, refused_answer, accepted_answer}
+use Rattle.names.specs.CallAnswer.{CallResult, written, refused_answer, accepted_answer}
 use Rattle.names.specs.Names.{Bytes}
 use Rattle.names.specs.Refusals.{place_at, refusing, placeless}
 use Rattle.names.specs.declared.Place.{Place}
@@ -31,15 +31,15 @@ let_loc (BM l f) = []
 let_loc (BF l w ca c a b) = []
 
 -- the indices of the stuck bindings, in the sequence in which `toposort` leaves them; a deadlock carries no rounds
-unfoldable pub stuck_answer : ℕ → Place → Bytes → Bytes → Result
+unfoldable pub stuck_answer : ℕ → Place → Bytes → Bytes → CallResult
 stuck_answer c p buffer is = (record { refusal = refusing 5 p; counter = c; rounds = 0; len = length is }, written is buffer)
 
 -- the indices in order, and the number of rounds
-unfoldable pub order_answer : ℕ → Bytes → ℕ → Bytes → Result
+unfoldable pub order_answer : ℕ → Bytes → ℕ → Bytes → CallResult
 order_answer c buffer count is = (accepted_answer c count (length is), written is buffer)
 
 -- an assign that is read: 8 where the buffer is shorter than the binding count; then its order, or 5
-unfoldable pub order_of : ℕ → Bytes → Body → Result
+unfoldable pub order_of : ℕ → Bytes → Body → CallResult
 order_of c buffer a =
     elim (leb (length (bindings_of a)) (length buffer)) [
       | false ↦ refused_answer c buffer (placeless 8)
@@ -50,7 +50,7 @@ order_of c buffer a =
     ]
 
 -- the call Order: the refusals before any work, then the order
-unfoldable pub order_call : ℕ → ℕ → ℕ → Bytes → Bytes → Result
+unfoldable pub order_call : ℕ → ℕ → ℕ → Bytes → Bytes → CallResult
 order_call F work c input buffer =
     elim (open_input assign_of F work c input) [ closed r ↦ refused_answer c buffer r | opened a ↦ order_of c buffer a ]
 

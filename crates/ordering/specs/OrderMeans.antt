@@ -1,7 +1,7 @@
 -- What an answer of the call Order means, said without the algorithm, the reader and the call's definition.
 -- Assumes nothing.
 use Rattle.std.specs.Prelude.{◌≢◌, ◌≡◌, ◌≤◌, length, take}
-use Rattle.names.specs.CallAnswer.{Result}
+use Rattle.names.specs.CallAnswer.{CallResult}
 use Rattle.names.specs.Names.{Bytes}
 use Rattle.names.specs.Refusals.{place_at}
 use Rattle.records.specs.Records.{loc_number, Body, body_bytes}
@@ -17,11 +17,11 @@ pub record IsAssign (input : Bytes) (a : Body) : Type 0 where
   pub is : input ≡ body_bytes a
 
 -- the bytes that a call wrote
-abbrev pub bytes_written : Result → Bytes
+abbrev pub bytes_written : CallResult → Bytes
 bytes_written r = take r.0.len r.1
 
 -- what an answer to an input means, as far as the numbers 0 and 5 go; the sequence of the stuck ones is free
-pub record OrderMeans (input : Bytes) (r : Result) : Type 0 where
+pub record OrderMeans (input : Bytes) (r : CallResult) : Type 0 where
   -- the length is that of bytes of the result buffer
   pub within : r.0.len ≤ length r.1
   -- with 0 the input is an assign, the bytes written are a full lawful order of its bindings, and the rounds are the nonempty ones

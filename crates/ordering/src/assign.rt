@@ -34,14 +34,11 @@ pub fn find_names(s: &[u8], first: usize, given: &mut [usize], bodies: &mut [usi
 {
     let mut at = first;
     let mut n = 0;
-    let mut j = 0;
-    while j < bodies.len() {
+    for j in 0..bodies.len() {
         let r = binding_names(s, at, given, n);
-        let body = r.end;
         n = r.count;
-        bodies[j] = body;
-        at = past_record(Family::Body, s, body);
-        j += 1;
+        bodies[j] = r.end;
+        at = past_record(Family::Body, s, r.end);
     }
     n
 }
@@ -54,15 +51,13 @@ fn find_needs(s: &[u8], given: &[usize], bodies: &[usize], needs: &mut [u64], st
     ensures finds_needs { FindsNeeds s.now given.now bodies.now needs.old needs.new starts.new }
 {
     let mut n = 0;
-    let mut j = 0;
-    while j < bodies.len() {
+    for j in 0..bodies.len() {
         starts[j] = n;
         let body = bodies[j];
         let r = body_needs(s, given, &s[body..], needs, n);
         n = r.count;
-        j += 1;
     }
-    starts[j] = n;
+    starts[bodies.len()] = n;
 }
 
 // Orders the bindings that follow each other from a place on, with room for what is listed of them.

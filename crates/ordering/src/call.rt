@@ -14,7 +14,7 @@ use names::refusals::{place_at, placeless, refusing};
 use names::{Answer, Place};
 use records::bodies::let_view;
 use records::input::open_input;
-use records::{LOC_WIDTH, Opening, Wanted};
+use records::{LOC_WIDTH, Wanted};
 
 // Writes the order.
 fn ordered(o: Order, counter: u64, res: &mut [u8]) -> Answer
@@ -70,9 +70,8 @@ pub fn order_call(f: usize, work: &mut [u8], counter: u64, input: &[u8], res: &m
     ensures res_after { (result, res.new) ≡ order_call f (length work.old) counter input.now res.old }
     ensures order_means { OrderMeans input.now (result, res.new) }
 {
-    let opening = open_input(Wanted::Assign, f, work.len(), counter, input);
-    match opening {
-        Opening::Refused(refusal) => refused(refusal, counter),
-        Opening::Accepted => order_of(counter, input, res),
+    match open_input(Wanted::Assign, f, work.len(), counter, input) {
+        Err(refusal) => refused(refusal, counter),
+        Ok(()) => order_of(counter, input, res),
     }
 }

@@ -18,7 +18,7 @@ use records::past::{name_view, past_bytes, past_head, tagged_view};
 use records::record::body_mark;
 use records::sexps::{all_zero, sexp_view};
 use records::skip::skip;
-use records::{Family, LOC_WIDTH, MARK_WIDTH, SexpView};
+use records::{BodyMark, Family, LOC_WIDTH, MARK_WIDTH, SexpView};
 
 // A name, if some binding provides it.
 fn word(a: &[u8], given: &[usize], name: &[u8], needs: &mut [u64], n: usize) -> usize
@@ -100,17 +100,16 @@ pub fn body_needs(a: &[u8], given: &[usize], s: &[u8], needs: &mut [u64], n: usi
     requires { Given a.now given.now × (n ≤ length needs.old) }
     ensures { ListsBody a.now given.now s.now 0 needs.old needs.new n result }
 {
-    let k = body_mark(s);
-    match k {
-        0 => let_needs(a, given, s, needs, n),
-        1 => {
+    match body_mark(s) {
+        Some(BodyMark::Let) => let_needs(a, given, s, needs, n),
+        Some(BodyMark::Quoted) => {
             let c = word(a, given, b"q", needs, n);
             child_sexp(a, given, s, past_bytes(s, 0, MARK_WIDTH), needs, c)
         }
-        2 => child_sexp(a, given, s, past_bytes(s, 0, MARK_WIDTH), needs, n),
-        3 => call_needs(a, given, s, needs, n),
-        5 => lambda_needs(a, given, s, needs, n),
-        _ => Listed {
+        Some(BodyMark::Value) => child_sexp(a, given, s, past_bytes(s, 0, MARK_WIDTH), needs, n),
+        Some(BodyMark::Call) => call_needs(a, given, s, needs, n),
+        Some(BodyMark::Lambda) => lambda_needs(a, given, s, needs, n),
+        Some(BodyMark::Mod) | None => Listed {
             count: n,
             end: skip(Family::Body, s),
         },
@@ -298,10 +297,8 @@ fn times(
     ensures { ReachesMembers binding count a.now given.now s.now from needs.old needs.new result }
 {
     let mut r = from;
-    let mut i = 0;
-    while i < count {
+    for _ in 0..count {
         r = child(a, given, s, binding, r.end, needs, r.count);
-        i += 1;
     }
     r
 }

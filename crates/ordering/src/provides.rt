@@ -84,9 +84,7 @@ pub fn providers(a: &[u8], given: &[usize], name: &[u8]) -> u64
 {
     let mut bits = 0;
     let mut found = 0;
-    let mut k = given.len();
-    while k > 0 {
-        k -= 1;
+    for k in (0..given.len()).rev() {
         let e = given[k];
         let start = e / PLACES;
         let end = e % PLACES;

@@ -34,10 +34,8 @@ fn rising(row: &mut [u8])
     requires { length row.old ≤ binding_limit }
     ensures { row.new ≡ indices_from 0 (length row.old) }
 {
-    let mut i = 0;
-    while i < row.len() {
+    for i in 0..row.len() {
         row[i] = i as u8;
-        i += 1;
     }
 }
 
@@ -48,10 +46,8 @@ fn placed_bits(row: &[u8], placed: usize) -> u64
     ensures { result ≡ bits (marks (length row.now) (take placed row.now)) }
 {
     let mut bits = 0;
-    let mut k = 0;
-    while k < placed {
-        bits |= 1u64 << row[k];
-        k += 1;
+    for i in &row[..placed] {
+        bits |= 1u64 << *i;
     }
     bits
 }
@@ -66,22 +62,16 @@ fn turn(needs: &[u64], starts: &[usize], row: &mut [u8], placed: usize, done: u6
     ensures takes_turn { TakesTurn needs.now starts.now row.old placed done row.new result }
 {
     let mut left = placed;
-    let mut p = placed;
-    'positions: while p < row.len() {
+    'positions: for p in placed..row.len() {
         let i = row[p];
-        let mut k = starts[i as usize];
-        let end = starts[i as usize + 1];
-        while k < end {
+        for k in starts[i as usize]..starts[i as usize + 1] {
             if needs[k] & done == 0 {
-                p += 1;
                 continue 'positions;
             }
-            k += 1;
         }
         row[p] = row[left];
         row[left] = i;
         left += 1;
-        p += 1;
     }
     left
 }

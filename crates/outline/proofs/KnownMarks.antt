@@ -8,11 +8,11 @@ use Rattle.records.specs.Scan.{mark_index}
 use Rattle.outline.specs.declared.Mark.{Mark}
 use Rattle.outline.specs.declared.Mark.TheVariants as marks
 use Rattle.outline.specs.Outline.{mark_bytes}
-use Rattle.outline.specs.Shape.{first_mark, body_or_other, helper_or_other, binding_or_form, sexp_by_place, body_by_place, helper_by_place, most_fields, fields_of}
+use Rattle.outline.specs.Shape.{first_mark, binding_or_form, most_fields, fields_of}
 
 -- a mark that is known is read back
 pub mark_known : (m : Mark) → length (mark_bytes m) ≡ mark_width → first_mark (mark_bytes m) ≡ m
-unfolding mark_bytes first_mark body_or_other helper_or_other binding_or_form sexp_by_place body_by_place helper_by_place mark_index same ascii
+unfolding mark_bytes binding_or_form mark_index same ascii
 mark_known marks.Nil q = refl
 mark_known marks.Pair q = refl
 mark_known marks.Integer q = refl

@@ -4,7 +4,7 @@ use borrow.Author.Tests.{le-leb, lt-leb}
 use native.Mathlib.Omega.{arith}
 use Prim.Native.Nat.{ℕ, ◌+◌, ◌*◌, ◌≤◌, ◌<◌}
 use lib.ListN.{length}
-use Rattle.names.specs.CallAnswer.{Result, accepted_answer, refused_answer, written}
+use Rattle.names.specs.CallAnswer.{CallResult, accepted_answer, refused_answer, written}
 use Rattle.names.specs.Names.{Bytes}
 use Rattle.names.specs.Refusals.{placeless}
 use Rattle.names.specs.declared.Refusal.{Refusal}
@@ -17,7 +17,7 @@ use Rattle.records.specs.Read.{readers}
 use Rattle.records.specs.Records.{Form, form_bytes}
 use Rattle.records.specs.Scan.{opening_of}
 use Rattle.records.specs.Valid.{AreBytes, FormFields}
-use Rattle.records.specs.declared.Opening.TheVariants.{Accepted, Refused}
+use Rattle.std.specs.Prelude.{Ok, Err}
 use Rattle.records.proofs.Accepted.{read_form}
 use Rattle.outline.specs.declared.Counted.{Counted}
 use Rattle.outline.specs.Outline.{outline_bytes, outline_records, form_outline}
@@ -41,20 +41,20 @@ pub record TakenForm (F work : ℕ) (input buffer : Bytes) : Type 0 where
 
 module _ (F work : ℕ) (input buffer : Bytes) where
   -- a refused input
-  pub page_call_refused : {r : Refusal} → Refused r ≡ opening_of (read_input (readers level_limit).form F work 0 input) → page_call F work input buffer ≡ refused_answer 0 buffer r
+  pub page_call_refused : {r : Refusal} → Err r ≡ opening_of (read_input (readers level_limit).form F work 0 input) → page_call F work input buffer ≡ refused_answer 0 buffer r
   unfolding page_call
   page_call_refused {r} e = go (read_input (readers level_limit).form F work 0 input) e
     where
-      go : (o : Opened Form) → Refused r ≡ opening_of o → elim o as (λ _. Result) [ closed q ↦ refused_answer 0 buffer q | opened f ↦ laid_out buffer f ] ≡ refused_answer 0 buffer r
+      go : (o : Opened Form) → Err r ≡ opening_of o → elim o as (λ _. CallResult) [ closed q ↦ refused_answer 0 buffer q | opened f ↦ laid_out buffer f ] ≡ refused_answer 0 buffer r
       go (opened f) q = cc
       go (closed p) q = cc
 
   -- an accepted one
-  pub form_taken : AreBytes input → Accepted ≡ opening_of (read_input (readers level_limit).form F work 0 input) → TakenForm F work input buffer
+  pub form_taken : AreBytes input → Ok tt ≡ opening_of (read_input (readers level_limit).form F work 0 input) → TakenForm F work input buffer
   unfolding page_call
   form_taken b e = go (read_input (readers level_limit).form F work 0 input) refl e
     where
-      go : (o : Opened Form) → read_input (readers level_limit).form F work 0 input ≡ o → Accepted ≡ opening_of o → TakenForm F work input buffer
+      go : (o : Opened Form) → read_input (readers level_limit).form F work 0 input ≡ o → Ok tt ≡ opening_of o → TakenForm F work input buffer
       go (closed r) h e = let no : ◌≡◌ {A = ℕ} 0 1 = cc in absurd (omega (arith, no))
       go (opened f) h e =
           let t = read_form F work 0 input f b h in

@@ -2,7 +2,7 @@
 -- Assumes nothing.
 use Rattle.std.specs.Prelude.{true, false, ◌&&◌, cond, List, [], ◌∷◌, ◌++◌, map, ℕ, zero, suc, ◌+◌, ◌*◌, leb, length, take}
 use Rattle.std.proofs.Math.Option.{Option, none, some}
-use Rattle.names.specs.CallAnswer.{Result, accepted_answer, refused_answer, written}
+use Rattle.names.specs.CallAnswer.{CallResult, accepted_answer, refused_answer, written}
 use Rattle.names.specs.Names.{Bytes, ascii}
 use Rattle.names.specs.Refusals.{placeless}
 use Rattle.records.specs.Limits.{level_limit}
@@ -57,7 +57,7 @@ unfoldable pub page : Form → Bytes
 page f = joined (λ x. x) (lines f)
 
 -- 9 where the buffer is shorter than 73 times the record count
-unfoldable pub laid_out : Bytes → Form → Result
+unfoldable pub laid_out : Bytes → Form → CallResult
 laid_out buffer f =
     elim (leb ((line_width + 1) * outline_records (form_outline f)) (length buffer)) [
       | true ↦ (accepted_answer 0 0 (length (page f)), written (page f) buffer)
@@ -65,7 +65,7 @@ laid_out buffer f =
     ]
 
 -- the call Page: the reading refusals, then 9; there is no counter
-unfoldable pub page_call : ℕ → ℕ → Bytes → Bytes → Result
+unfoldable pub page_call : ℕ → ℕ → Bytes → Bytes → CallResult
 page_call F work input buffer =
     elim (read_input (readers level_limit).form F work 0 input) [ closed r ↦ refused_answer 0 buffer r | opened f ↦ laid_out buffer f ]
 

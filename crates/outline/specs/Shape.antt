@@ -1,13 +1,21 @@
 -- The mark of a record, the fields that follow it, and the outlines that are shaped so; what the functions that list records ask and say.
 -- Assumes nothing.
-use Rattle.std.specs.Prelude.{◌≡◌, true, false, List, [], ◌∷◌, ℕ, zero, suc, ◌+◌, ◌*◌, ◌^◌, ◌≤◌, ◌<◌, length, take}
+use Rattle.std.specs.Prelude.{◌≡◌, true, false, List, [], ◌∷◌, ℕ, ◌+◌, ◌*◌, ◌^◌, ◌≤◌, ◌<◌, length, take}
 use Rattle.std.proofs.Math.Option.{Option}
+use Rattle.std.specs.declared.option.Option.{Option as Found}
+use Rattle.std.specs.declared.option.Option.TheVariants.{Some, None}
 use Rattle.names.specs.Names.{Bytes, ascii, same, name_field}
 use Rattle.names.specs.Segments.{At}
 use Rattle.records.specs.Limits.{most_longest}
 use Rattle.records.specs.Records.{mark_width, loc_width, byte, integer_field}
-use Rattle.records.specs.Scan.{mark_index, sexp_marks, body_marks, helper_marks}
+use Rattle.records.specs.Scan.{mark_index, sexp_marks, sexp_mark_at, body_marks, body_mark_at, helper_marks, helper_mark_at}
 use Rattle.records.specs.Valid.{ValidName, ValidRaw, ValidKeyword, ValidHint, ValidInteger}
+use Rattle.records.specs.declared.SexpMark.{SexpMark}
+use Rattle.records.specs.declared.SexpMark.TheVariants as sexp_marks_of
+use Rattle.records.specs.declared.BodyMark.{BodyMark}
+use Rattle.records.specs.declared.BodyMark.TheVariants as body_marks_of
+use Rattle.records.specs.declared.HelperMark.{HelperMark}
+use Rattle.records.specs.declared.HelperMark.TheVariants as helper_marks_of
 use Rattle.outline.specs.declared.Around.{Around}
 use Rattle.outline.specs.declared.Counted.{Counted}
 use Rattle.outline.specs.declared.Entry.{Entry}
@@ -22,45 +30,45 @@ use Rattle.outline.specs.Index.{moved_on, outline_listing, pieces_listing, place
 unfoldable pub binding_or_form : Bytes → Mark
 binding_or_form x = elim (same x (ascii "BB")) [ true ↦ marks.Binding | false ↦ elim (same x (ascii "CF")) [ true ↦ marks.Form | false ↦ marks.Unknown ] ]
 
--- the mark of an H record by its place among them, or else m
-unfoldable pub helper_by_place : Mark → ℕ → Mark
-helper_by_place m zero = marks.Constant
-helper_by_place m (suc zero) = marks.Macro
-helper_by_place m (suc (suc zero)) = marks.Function
-helper_by_place m (suc (suc (suc zero))) = marks.Namespace
-helper_by_place m (suc (suc (suc (suc zero)))) = marks.Reference
-helper_by_place m (suc (suc (suc (suc (suc k))))) = m
+-- the mark of an H record, or else m
+abbrev pub of_helper : Mark → Found HelperMark → Mark
+of_helper m (Some helper_marks_of.Constant) = marks.Constant
+of_helper m (Some helper_marks_of.Macro) = marks.Macro
+of_helper m (Some helper_marks_of.Function) = marks.Function
+of_helper m (Some helper_marks_of.Namespace) = marks.Namespace
+of_helper m (Some helper_marks_of.Reference) = marks.Reference
+of_helper m None = m
 
 -- one that is of no S and of no B record
-unfoldable pub helper_or_other : Bytes → Mark
-helper_or_other x = helper_by_place (binding_or_form x) (mark_index x helper_marks)
+abbrev pub helper_or_other : Bytes → Mark
+helper_or_other x = of_helper (binding_or_form x) (helper_mark_at (mark_index x helper_marks))
 
 -- of a B record
-unfoldable pub body_by_place : Mark → ℕ → Mark
-body_by_place m zero = marks.Let
-body_by_place m (suc zero) = marks.Quoted
-body_by_place m (suc (suc zero)) = marks.Value
-body_by_place m (suc (suc (suc zero))) = marks.Call
-body_by_place m (suc (suc (suc (suc zero)))) = marks.Mod
-body_by_place m (suc (suc (suc (suc (suc zero))))) = marks.Lambda
-body_by_place m (suc (suc (suc (suc (suc (suc k)))))) = m
+abbrev pub of_body : Mark → Found BodyMark → Mark
+of_body m (Some body_marks_of.Let) = marks.Let
+of_body m (Some body_marks_of.Quoted) = marks.Quoted
+of_body m (Some body_marks_of.Value) = marks.Value
+of_body m (Some body_marks_of.Call) = marks.Call
+of_body m (Some body_marks_of.Mod) = marks.Mod
+of_body m (Some body_marks_of.Lambda) = marks.Lambda
+of_body m None = m
 
 -- one that is of no S record
-unfoldable pub body_or_other : Bytes → Mark
-body_or_other x = body_by_place (helper_or_other x) (mark_index x body_marks)
+abbrev pub body_or_other : Bytes → Mark
+body_or_other x = of_body (helper_or_other x) (body_mark_at (mark_index x body_marks))
 
 -- of an S record
-unfoldable pub sexp_by_place : Mark → ℕ → Mark
-sexp_by_place m zero = marks.Nil
-sexp_by_place m (suc zero) = marks.Pair
-sexp_by_place m (suc (suc zero)) = marks.Integer
-sexp_by_place m (suc (suc (suc zero))) = marks.Text
-sexp_by_place m (suc (suc (suc (suc zero)))) = marks.Atom
-sexp_by_place m (suc (suc (suc (suc (suc k))))) = m
+abbrev pub of_sexp : Mark → Found SexpMark → Mark
+of_sexp m (Some sexp_marks_of.Nil) = marks.Nil
+of_sexp m (Some sexp_marks_of.Pair) = marks.Pair
+of_sexp m (Some sexp_marks_of.Integer) = marks.Integer
+of_sexp m (Some sexp_marks_of.Text) = marks.Text
+of_sexp m (Some sexp_marks_of.Atom) = marks.Atom
+of_sexp m None = m
 
 -- any mark, or Unknown
-unfoldable pub first_mark : Bytes → Mark
-first_mark x = sexp_by_place (body_or_other x) (mark_index x sexp_marks)
+abbrev pub first_mark : Bytes → Mark
+first_mark x = of_sexp (body_or_other x) (sexp_mark_at (mark_index x sexp_marks))
 
 -- six fields, of which the last ones may be none
 abbrev pub six : Field → Field → Field → Field → Field → Field → List Field

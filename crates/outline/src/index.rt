@@ -81,11 +81,8 @@ fn fields(row: [Field; MOST_FIELDS], s: &[u8], mem: &mut [u8], a: Around) -> Cou
         count: 1,
         end: MARK_WIDTH,
     };
-    let mut i = 0;
-    while i < MOST_FIELDS {
-        let f = row[i];
-        c = field(f, s, mem, a, c);
-        i += 1;
+    for f in &row {
+        c = field(*f, s, mem, a, c);
     }
     c
 }
@@ -118,10 +115,7 @@ fn past_field(f: Field, s: &[u8], at: usize) -> usize
         Field::Loc => past_bytes(s, at, LOC_WIDTH),
         Field::Keyword => past_keyword(s, at),
         Field::Hint => past_hint(s, at),
-        Field::Number => {
-            let v = integer_view(s, at);
-            v.end
-        }
+        Field::Number => integer_view(s, at).end,
         Field::Name => past_name(s, at),
         Field::Raw => past_raw(s, at),
         _ => at,
@@ -202,10 +196,8 @@ fn several(s: &[u8], mem: &mut [u8], a: Around, c: Counted) -> Counted
         count: c.count,
         end: past_bytes(s, c.end, 1),
     };
-    let mut i = 0;
-    while i < n {
+    for _ in 0..n {
         d = child(s, mem, a, d);
-        i += 1;
     }
     d
 }

@@ -7,19 +7,19 @@ use crate::{Field, MOST_FIELDS, Mark};
 use names::bytes::is_word;
 use records::record::{body_mark, helper_mark};
 use records::sexp::sexp_mark;
+use records::{BodyMark, HelperMark, SexpMark};
 
 // The mark that s starts with.
 pub fn first_mark(s: &[u8]) -> Mark
     ensures { result ≡ first_mark (take mark_width (drop 0 s.now)) }
 {
-    let k = sexp_mark(s);
-    match k {
-        0 => Mark::Nil,
-        1 => Mark::Pair,
-        2 => Mark::Integer,
-        3 => Mark::Text,
-        4 => Mark::Atom,
-        _ => body_or_other(s),
+    match sexp_mark(s) {
+        Some(SexpMark::Nil) => Mark::Nil,
+        Some(SexpMark::Pair) => Mark::Pair,
+        Some(SexpMark::Integer) => Mark::Integer,
+        Some(SexpMark::Text) => Mark::Text,
+        Some(SexpMark::Atom) => Mark::Atom,
+        None => body_or_other(s),
     }
 }
 
@@ -27,15 +27,14 @@ pub fn first_mark(s: &[u8]) -> Mark
 fn body_or_other(s: &[u8]) -> Mark
     ensures { result ≡ body_or_other (take mark_width (drop 0 s.now)) }
 {
-    let k = body_mark(s);
-    match k {
-        0 => Mark::Let,
-        1 => Mark::Quoted,
-        2 => Mark::Value,
-        3 => Mark::Call,
-        4 => Mark::Mod,
-        5 => Mark::Lambda,
-        _ => helper_or_other(s),
+    match body_mark(s) {
+        Some(BodyMark::Let) => Mark::Let,
+        Some(BodyMark::Quoted) => Mark::Quoted,
+        Some(BodyMark::Value) => Mark::Value,
+        Some(BodyMark::Call) => Mark::Call,
+        Some(BodyMark::Mod) => Mark::Mod,
+        Some(BodyMark::Lambda) => Mark::Lambda,
+        None => helper_or_other(s),
     }
 }
 
@@ -43,14 +42,13 @@ fn body_or_other(s: &[u8]) -> Mark
 fn helper_or_other(s: &[u8]) -> Mark
     ensures { result ≡ helper_or_other (take mark_width (drop 0 s.now)) }
 {
-    let k = helper_mark(s);
-    match k {
-        0 => Mark::Constant,
-        1 => Mark::Macro,
-        2 => Mark::Function,
-        3 => Mark::Namespace,
-        4 => Mark::Reference,
-        _ => binding_or_form(s),
+    match helper_mark(s) {
+        Some(HelperMark::Constant) => Mark::Constant,
+        Some(HelperMark::Macro) => Mark::Macro,
+        Some(HelperMark::Function) => Mark::Function,
+        Some(HelperMark::Namespace) => Mark::Namespace,
+        Some(HelperMark::Reference) => Mark::Reference,
+        None => binding_or_form(s),
     }
 }
 

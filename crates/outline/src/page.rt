@@ -14,7 +14,7 @@ use names::call::{accepted, refused};
 use names::refusals::placeless;
 use records::input::read_input;
 use records::past::{byte_at, name_view};
-use records::{HEAD_WIDTH, LOC_WIDTH, MARK_WIDTH, Opening, Wanted};
+use records::{HEAD_WIDTH, LOC_WIDTH, MARK_WIDTH, Wanted};
 
 // Where the first name field of a record stands that is its own.
 fn name_place(mark: Mark) -> NamePlace
@@ -117,10 +117,8 @@ fn put_line(s: &[u8], depth: usize, out: &mut [u8])
     ensures { LineWritten s.now depth out.old out.new }
 {
     let name = label(s);
-    let mut i = 0;
-    while i < LINE_WIDTH {
+    for i in 0..LINE_WIDTH {
         out[i] = character(s, depth, name, i);
-        i += 1;
     }
     out[LINE_WIDTH] = b'\n';
 }
@@ -130,14 +128,10 @@ fn lay_out(input: &[u8], entries: &[u8], n: usize, out: &mut [u8])
     requires { PageAsks input.now entries.now n out.old }
     ensures { PageWritten input.now entries.now n out.old out.new }
 {
-    let mut k = 0;
-    while k < n {
-        let e = entry_at(entries, k);
-        let a = e.around;
-        let at = a.offset;
+    for k in 0..n {
+        let around = entry_at(entries, k).around;
         let line = (LINE_WIDTH + 1) * k;
-        put_line(&input[at..], a.depth, &mut out[line..]);
-        k += 1;
+        put_line(&input[around.offset..], around.depth, &mut out[line..]);
     }
 }
 
@@ -145,10 +139,9 @@ fn lay_out(input: &[u8], entries: &[u8], n: usize, out: &mut [u8])
 pub fn page_call(f: usize, work: &mut [u8], input: &[u8], res: &mut [u8]) -> Answer
     ensures { (result, res.new) ≡ page_call f (length work.old) input.now res.old }
 {
-    let opening = read_input(Wanted::Form, f, work.len(), 0, input);
-    match opening {
-        Opening::Refused(refusal) => refused(refusal, 0),
-        Opening::Accepted => {
+    match read_input(Wanted::Form, f, work.len(), 0, input) {
+        Err(refusal) => refused(refusal, 0),
+        Ok(()) => {
             let c = index_input(input, work);
             let n = c.count;
             let len = (LINE_WIDTH + 1) * n;

@@ -2,7 +2,7 @@
 use mathlib.Core.Path.{◌≡◌, ap, sym, ◌∙◌}
 use mathlib.Core.Bool.{true}
 use mathlib.Core.Logic.{◌↔◌}
-use mathlib.Core.Option.{Option, none}
+use Rattle.std.specs.Prelude.{Option, None}
 use Prim.Native.Nat.{ℕ, ◌*◌, ◌≤◌}
 use lib.Dec.{leb, le→leb}
 use lib.ListN.{length}
@@ -45,15 +45,15 @@ module _ {A : Type 0} {t u : A} {o p : Option ℕ} where
 
 module _ {A : Type 0} {m : Reader A} {f : A → Bytes} {Valid Clear : A → Type 0} (s : Format m f Valid Clear) where
   -- the bytes of a valid tree with no such BM
-  pub reads_clear : (t : A) → Valid t → Clear t → read_whole m (f t) ≡ whole t none
+  pub reads_clear : (t : A) → Valid t → Clear t → read_whole m (f t) ≡ whole t None
   reads_clear t v n = let w = s.complete t v in w.whole_read ∙ ap (whole t) (w.stays n)
 
   -- where none is noted there is none
-  pub clear_valid : (input : Bytes) (t : A) → AreBytes input → read_whole m input ≡ whole t none → Valid t × Clear t
+  pub clear_valid : (input : Bytes) (t : A) → AreBytes input → read_whole m input ≡ whole t None → Valid t × Clear t
   clear_valid input t b h =
-      let v = s.valid input t none b h in
+      let v = s.valid input t None b h in
       let w = s.complete t v in
-      (v, w.clear (same_first (sym w.whole_read ∙ ap (read_whole m) (sym (s.back input t none h)) ∙ h)))
+      (v, w.clear (same_first (sym w.whole_read ∙ ap (read_whole m) (sym (s.back input t None h)) ∙ h)))
 
   -- an input of bytes is read as t exactly if it is the bytes of t, and t is valid
   pub accepted : (input : Bytes) (t : A) → AreBytes input → ((o : Option ℕ) × (read_whole m input ≡ whole t o)) ↔ (Valid t × (input ≡ f t))
@@ -74,7 +74,7 @@ module _ {A : Type 0} {m : Reader A} {f : A → Bytes} {Valid Clear : A → Type
 
     -- and nothing else
     pub opened_valid : (input : Bytes) (t : A) → AreBytes input → open_input m F work c input ≡ opened t → Valid t × Clear t × (input ≡ f t)
-    opened_valid input t b h = let o = rw h at (start m F work c input) in let p = clear_valid input t b o.read in (p.0, p.1, s.back input t none o.read)
+    opened_valid input t b h = let o = rw h at (start m F work c input) in let p = clear_valid input t b o.read in (p.0, p.1, s.back input t None o.read)
 
     -- where a BM may stand anywhere, an input that is read is the bytes of a valid tree too, and the limits hold
     pub read_valid : (input : Bytes) (t : A) → AreBytes input → read_input m F work c input ≡ opened t

@@ -1,7 +1,7 @@
 -- The bytes of every valid tree are read back as that tree. Assumes nothing.
 use mathlib.Core.Path.{◌≡◌, refl, ap, sym, ◌∙◌}
 use mathlib.Core.List.{List, [], ◌∷◌, flatten, append-nil}
-use mathlib.Core.Option.{Option, none, some}
+use Rattle.std.specs.Prelude.{Option, None, Some}
 use Prim.Native.Nat.{ℕ, zero, suc, ◌+◌, ◌-◌, ◌≤◌}
 use native.Mathlib.Omega.{arith}
 use Rattle.names.specs.Names.{Bytes, ascii, same}
@@ -106,7 +106,7 @@ module _ (r : Readers) (d : ℕ) (e : Complete d r) where
   reads_let_of : (n k : ℕ) (z : Zone) (x : Kind) (l : Loc) (w h : Bytes) (bs : Bindings) (b : Body)
       → n ≤ d → BodyFields (BL x l w h bs b) → depth (BL x l w h bs b) ≤ 1 + n → lambda_depth (BL x l w h bs b) ≤ k
       → Reads (NoMod z (BL x l w h bs b))
-      (first_in ((l, none) ∷ (w, none) ∷ (h, none) ∷ (byte (bindings_count bs), none) ∷ (bindings_bytes bs, bindings_first (binding_zone x z) bs)
+      (first_in ((l, None) ∷ (w, None) ∷ (h, None) ∷ (byte (bindings_count bs), None) ∷ (bindings_bytes bs, bindings_first (binding_zone x z) bs)
       ∷ (body_bytes b, body_first z b) ∷ []))
       n k z (let_of r x) (flatten (l ∷ w ∷ h ∷ byte (bindings_count bs) ∷ bindings_bytes bs ∷ body_bytes b ∷ [])) (BL x l w h bs b)
   unfolding BodyFields depth lambda_depth NoMod let_of flatten
@@ -187,13 +187,13 @@ reads_assign_of z (BF l w ca c x b) (a, v) = absurd a
 -- bs is read whole as a, and x is the first BM noted; none is noted exactly if Q
 pub record WholeRead {A : Type 0} (Q : Type 0) (x : Option ℕ) (m : Reader A) (bs : Bytes) (a : A) : Type 0 where
   pub whole_read : read_whole m bs ≡ whole a x
-  pub clear : x ≡ none → Q
-  pub stays : Q → x ≡ none
+  pub clear : x ≡ None → Q
+  pub stays : Q → x ≡ None
 
 -- from the first byte on an offset is a place
 behind_zero : (x : Option ℕ) → behind 0 x ≡ x
-behind_zero none = refl
-behind_zero (some p) = let e : 0 + p ≡ p = omega arith in ap some e
+behind_zero None = refl
+behind_zero (Some p) = let e : 0 + p ≡ p = omega arith in ap Some e
 
 pub reads_whole_of : {A : Type 0} {Q : Type 0} {x : Option ℕ} {m : Reader A} {bs : Bytes} {a : A} → Reads Q x level_limit lambda_limit Plain m bs a
     → WholeRead Q x m bs a

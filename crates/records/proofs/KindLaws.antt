@@ -1,35 +1,33 @@
 -- What stands after each mark, field by field, in the form in which the code meets it. Assumes nothing.
-use mathlib.Core.Path.{◌≡◌, refl, ap, sym, ◌∙◌, subst}
-use mathlib.Core.List.{[], ◌∷◌, ◌++◌}
+use mathlib.Core.Path.{◌≡◌, refl, ap, sym, ◌∙◌}
+use mathlib.Core.List.{List, [], ◌∷◌, ◌++◌}
 use Prim.Native.Nat.{ℕ, zero, suc, ◌≤◌, ◌<◌}
 use native.Mathlib.Omega.{arith}
 use lib.ListN.{length, get_or}
 use Rattle.names.specs.Names.{Bytes}
-use Rattle.names.specs.Refusals.{place_at}
+use Rattle.std.specs.Prelude.{Result, Ok, Err}
+use Rattle.names.specs.Refusals.{place_at, refusing}
+use Rattle.names.specs.declared.Refusal.{Refusal}
 use Rattle.records.specs.declared.Family.{Family}
 use Rattle.records.specs.declared.Family.TheVariants.{Body as a_Body, Binding as a_binding, Helper as a_helper, Form as a_form}
 use Rattle.records.specs.declared.Scan.{Scan}
 use Rattle.records.specs.Limits.{cons_limit}
-use Rattle.records.specs.Records.{SN, Name, BL, BV, BC, BM, BF, no_tail, tail, Binding, BB, HC, HM, HD, HN, HR, Form, CF, []ʰ, byte, to_bodies, to_bindings, to_helpers}
+use Rattle.records.specs.Records.{BL, no_tail, Binding, Form, byte, to_bindings}
 use Rattle.records.specs.Read.{InMod, Context, in_bindings, sexp, sexp_at, note, kind_of, more_levels, binding_zone, pattern_of, binding, binding_after, let_of, let_after, tail_after, call_tail, call_after, mod_after, lambda_after, constant_after, macro_after, function_after, namespace_after, reference_after, form_after, readers}
 use Rattle.records.specs.ReadFields.{Read, done, refused, Reader, malformed, ◌>>=◌, ◌>>◌, ret, times, deeper, loc, name, raw_field, keyword, hint, count, at_most}
-use Rattle.records.specs.Scan.{scan_of, input_at, reader_of, times_of, many_of, body_after, lambda_within, helper_after, let_of_kind, tail_of, below, below_lambda, in_zone_of, refused_scan, Comes, Reads, Goes}
+use Rattle.records.specs.Scan.{scan_of, input_at, reader_of, times_of, many_of, body_after, lambda_within, helper_after, let_of_kind, tail_of, below, below_lambda, in_zone_of, Comes, Reads, Goes}
 use Rattle.records.proofs.Readers.{Any}
 use Rattle.records.specs.Lists.{joined}
-use Rattle.records.proofs.Exact.{Exact, exact_loc, exact_name, exact_raw_field, exact_keyword, exact_hint, exact_count, exact_up_to, exact_sexp, exact_note, exact_times, exact_bind, exact_last, exact_pattern_of, exact_call_tail, exact_in_zone, exact_in_bindings, exact_readers}
-use Rattle.records.proofs.Scans.{by_number, going, staying, comes_of, comes_bind, comes_ret, reads_bind, reads_ret}
+use Rattle.records.proofs.Exact.{Exact, exact_loc, exact_name, exact_raw_field, exact_keyword, exact_hint, exact_count, exact_up_to, exact_sexp, exact_note, exact_times, exact_bind, exact_last, exact_pattern_of, exact_in_bindings, exact_readers}
+use Rattle.records.proofs.Scans.{comes_of, comes_bind, comes_stop, comes_last, comes_ret, done_at, reads_of}
+use Rattle.records.proofs.Chains.{past, stop, Field, Child, field, byte_field, child, goes_of}
 use Rattle.records.proofs.ContextLaws.{comes_deeper, comes_shallow, comes_in_lambda, comes_no_lambda, comes_in_zone, comes_in_bindings}
-use Rattle.records.proofs.Goes.{exact_of, comes_byte, comes_stop, bytes_of}
+use Rattle.records.proofs.Goes.{exact_of, bytes_of}
 
 -- readers one after the other, grouped the other way
-comes_assoc : {A B C : Type 0} (m : Reader A) (k : A → Reader B) (l : B → Reader C) {x : Context} {s : Bytes} {c r : Scan} → Comes ((m >>= k) >>= l) x s c r → Comes (m >>= λ a. k a >>= l) x s c r
+comes_assoc : {A B C : Type 0} (m : Reader A) (k : A → Reader B) (l : B → Reader C) {x : Context} {s : Bytes} {c : Scan} {r : Result Scan Refusal} → Comes ((m >>= k) >>= l) x s c r → Comes (m >>= λ a. k a >>= l) x s c r
 unfolding ◌>>=◌
-comes_assoc {A} {B} {C} m k l {x} {s} {c} {r} h = record {
-  there = h.there ∙ by_number c
-      (λ z. going ((m >>= k) >>= l) x s c z ∙ ap (scan_of x.mark (length s) c) (go (m x (input_at x.mark s c))) ∙ sym (going (m >>= λ a. k a >>= l) x s c z))
-      (λ z. staying ((m >>= k) >>= l) x s c z ∙ sym (staying (m >>= λ a. k a >>= l) x s c z));
-  within = h.within;
-}
+comes_assoc {A} {B} {C} m k l {x} {s} {c} h = record { there = h.there ∙ ap (scan_of x.mark) (go (m x (input_at x.mark s c))); within = h.within }
   where
     go : (o : Read A)
         → ◌≡◌ {A = Read C} (elim (elim o as (λ _. Read B) [ done a i ↦ k a x i | refused n p ↦ refused n p ]) [ done b j ↦ l b x j | refused n p ↦ refused n p ])
@@ -42,168 +40,106 @@ exact_many : (f : Family) (fuel : ℕ) → Exact Any (λ l. byte (length l) ++ j
 unfolding byte
 exact_many f fuel = exact_bind exact_count λ n p. exact_last (λ l q. ap (λ (k : ℕ). k ∷ joined (bytes_of f fuel) l) (sym q)) (λ l q. tt) (exact_times n (exact_of f fuel))
 
-module _ {x : Context} {s : Bytes} {c : Scan} (l : c.at ≤ length s) where
+module _ {x : Context} {s : Bytes} {c : Scan} {r : Result Scan Refusal} (l : c.at ≤ length s) where
+  -- a count and that many records, and then what is made of them
+  many_then : {B : Type 0} {K : Scan → Type 0} (f : Family) (fuel : ℕ) → x.room ≤ fuel → (k : List (reader_of f fuel).0 → Reader B) → Child (many_of f) x s c r K
+      → ((a : List (reader_of f fuel).0) (d : Scan) → d.at ≤ length s → K d → Comes (k a) x s d r) → Comes (count >>= λ n. times n (reader_of f fuel).1 >>= k) x s c r
+  many_then f fuel w k h t = comes_assoc count (λ n. times n (reader_of f fuel).1) k (child {m = many_of f} fuel w (exact_many f fuel) l h t)
+
+module _ {x : Context} {s : Bytes} {c : Scan} {r : Result Scan Refusal} (l : c.at ≤ length s) where
   -- BC, and its tail
-  pub goes_call : {d e r : Scan} → Reads loc x.mark s c d → Goes (many_of a_Body) x s d e → Goes tail_of x s e r → Goes (body_after call_after) x s c r
-  goes_call a b t = record {
-    enough = λ fuel h.
-        comes_bind exact_loc l [] (comes_of a x refl) (λ u.
-        comes_assoc count _ _ (comes_bind (exact_many a_Body fuel) a.within [] (b.enough fuel h) (λ bs.
-        comes_bind (exact_call_tail (exact_readers fuel).body) b.within no_tail (t.enough fuel h) (λ v. comes_ret (BC u (to_bodies bs) v) t.within))));
-    within = t.within;
-  }
+  pub goes_call : Field loc x.mark s c r (λ d. Child (many_of a_Body) x s d r (λ e. Goes tail_of x s e r)) → Goes (body_after call_after) x s c r
+  goes_call h = goes_of (λ fuel w. field refl exact_loc l h (λ u d b h. many_then b a_Body fuel w _ h (λ bs e b h. comes_last (λ v. done_at _) (h.enough fuel w))))
 
-  module _ {d : Scan} (g : Reads (at_most malformed 1) x.mark s c d) where
-    pub tail_stop : (d.refusal.number ≡ 0 → ⊥) → Goes tail_of x s c d
-    unfolding call_tail
-    tail_stop z = record { enough = λ fuel h. comes_stop (exact_up_to 1) l (comes_of g x refl) _ z; within = g.within }
+  pub tail_none : Field (at_most malformed 1) x.mark s c r (λ d. (get_or s c.at 0 ≡ 0) × (r ≡ Ok d)) → Goes tail_of x s c r
+  unfolding call_tail tail_after
+  tail_none h = goes_of (λ fuel w. byte_field _ refl (exact_up_to 1) l h (λ d b q. rw (q.0, q.1, tail_after) (comes_ret no_tail b)))
 
-    pub tail_none : d.refusal.number ≡ 0 → get_or s c.at 0 ≡ 0 → Goes tail_of x s c d
-    unfolding call_tail tail_after
-    tail_none z q = record { enough = λ fuel h. comes_byte (exact_up_to 1) l (comes_of g x refl) _ z (λ _. at fuel (get_or s c.at 0) q) g.within; within = g.within }
-      where
-        at : (fuel b : ℕ) → b ≡ 0 → Comes (tail_after (readers fuel).body b) x s d d
-        at fuel zero e = comes_ret no_tail g.within
-        at fuel (suc b) e = absurd (omega arith)
-
-    pub tail_there : {r : Scan} → d.refusal.number ≡ 0 → (get_or s c.at 0 ≡ 0 → ⊥) → Goes (reader_of a_Body) x s d r → Goes tail_of x s c r
-    unfolding call_tail tail_after
-    tail_there {r} z q k = record { enough = λ fuel h. comes_byte (exact_up_to 1) l (comes_of g x refl) _ z (λ _. at fuel h (get_or s c.at 0) q) k.within; within = k.within }
-      where
-        at : (fuel : ℕ) → x.room ≤ fuel → (b : ℕ) → (b ≡ 0 → ⊥) → Comes (tail_after (readers fuel).body b) x s d r
-        at fuel h zero e = absurd (e refl)
-        at fuel h (suc b) e = comes_bind (exact_readers fuel).body g.within (BV (SN [])) (k.enough fuel h) (λ t. comes_ret (tail t) k.within)
+  pub tail_there : Field (at_most malformed 1) x.mark s c r (λ d. (get_or s c.at 0 ≡ 0 → ⊥) × Goes (reader_of a_Body) x s d r) → Goes tail_of x s c r
+  unfolding call_tail tail_after
+  tail_there h = goes_of (λ fuel w. byte_field _ refl (exact_up_to 1) l h (λ d b q. at fuel (get_or s c.at 0) q.0 (q.1.enough fuel w)))
+    where
+      at : {d : Scan} (fuel b : ℕ) → (b ≡ 0 → ⊥) → Comes (readers fuel).body x s d r → Comes (tail_after (readers fuel).body b) x s d r
+      at fuel zero e k = absurd (e refl)
+      at fuel (suc b) e k = comes_last (λ t. done_at _) k
 
   -- BM
-  pub goes_mod : {d e r : Scan} → Comes note x s c d → Reads loc x.mark s d e → Goes (reader_of a_form) (in_zone_of InMod x) s e r → Goes (body_after mod_after) x s c r
+  pub goes_mod : {d : Scan} → Comes note x s c (Ok d) → Field loc x.mark s d r (λ e. Goes (reader_of a_form) (in_zone_of InMod x) s e r) → Goes (body_after mod_after) x s c r
   unfolding ◌>>◌
-  goes_mod a b k = record {
-    enough = λ fuel h.
-        comes_bind exact_note l tt a (λ _. comes_bind exact_loc a.within [] (comes_of b x refl) (λ u.
-        comes_bind (exact_in_zone InMod (exact_readers fuel).form) b.within (CF [] [] (SN []) []ʰ (BV (SN []))) (comes_in_zone (readers fuel).form InMod (k.enough fuel h)) (λ f. comes_ret (BM u f) k.within)));
-    within = k.within;
-  }
+  goes_mod a h = goes_of (λ fuel w. comes_bind _ exact_note l a (λ _. field refl exact_loc a.within h (λ u e b h. comes_last (λ v. done_at _) (comes_in_zone (h.enough fuel w)))))
 
   -- BF
-  pub goes_lambda : {d e f u v r : Scan} → (x.lambdas ≡ 0 → ⊥) → Reads loc x.mark s c d → Reads keyword x.mark s d e → Reads (sexp_at cons_limit) x.mark s e f
-      → Goes (reader_of a_Body) (below_lambda x) s f u → Reads (sexp_at cons_limit) x.mark s u v → Goes (reader_of a_Body) (below_lambda x) s v r → Goes (body_after lambda_within) x s c r
+  pub goes_lambda : (x.lambdas ≡ 0 → ⊥) → Field loc x.mark s c r (λ d. Field keyword x.mark s d r (λ e. Field (sexp_at cons_limit) x.mark s e r (λ f. Child (reader_of a_Body) (below_lambda x) s f r
+      (λ u. Field (sexp_at cons_limit) x.mark s u r (λ v. Goes (reader_of a_Body) (below_lambda x) s v r))))) → Goes (body_after lambda_within) x s c r
   unfolding sexp
-  goes_lambda z a b ca k ar m = record {
-    enough = λ fuel h. comes_in_lambda (lambda_after (readers fuel)) (omega arith)
-        (comes_bind exact_loc l [] (comes_of a y refl) (λ l₁. comes_bind exact_keyword a.within [] (comes_of b y refl) (λ w.
-        comes_bind exact_sexp b.within (SN []) (comes_of ca y refl) (λ t₁. comes_bind (exact_readers fuel).body ca.within (BV (SN [])) (k.enough fuel h) (λ c₁.
-        comes_bind exact_sexp k.within (SN []) (comes_of ar y refl) (λ t₂. comes_bind (exact_readers fuel).body ar.within (BV (SN [])) (m.enough fuel h) (λ b₁.
-        comes_ret (BF l₁ w t₁ c₁ t₂ b₁) m.within)))))));
-    within = m.within;
-  }
-    where
-      y : Context
-      y = below_lambda x
+  goes_lambda z h = goes_of (λ fuel w. comes_in_lambda (omega arith)
+      (field refl exact_loc l h (λ l₁ d b h. field refl exact_keyword b h (λ k e b h. field refl exact_sexp b h (λ ca f b h. child {m = reader_of a_Body} fuel w (exact_readers fuel).body b h (λ c₁ u b h.
+      field refl exact_sexp b h (λ a v b h. comes_last (λ _. done_at _) (h.enough fuel w))))))))
 
-  pub goes_no_lambda : x.lambdas ≡ 0 → c.refusal.number ≡ 0 → Goes (body_after lambda_within) x s c (refused_scan (length s) 3 (place_at x.mark))
-  goes_no_lambda h z = record { enough = λ fuel w. comes_no_lambda (lambda_after (readers fuel)) (omega arith) z; within = omega arith }
+  pub goes_no_lambda : {e : Refusal} → x.lambdas ≡ 0 → e ≡ refusing 3 (place_at x.mark) → r ≡ Err e → Goes (body_after lambda_within) x s c r
+  goes_no_lambda h z q = rw q (goes_of (λ fuel w. comes_no_lambda (lambda_after (readers fuel)) z (omega arith)))
 
   -- BB
-  pub goes_binding : {d e p r : Scan} → Reads loc x.mark s c d → Reads loc x.mark s d e → Reads pattern_of x.mark s e p → Goes (reader_of a_Body) x s p r
+  pub goes_binding : Field loc x.mark s c r (λ d. Field loc x.mark s d r (λ e. Field pattern_of x.mark s e r (λ p. Goes (reader_of a_Body) x s p r)))
       → Goes (λ fuel. (Binding, binding_after (readers fuel).body)) x s c r
-  goes_binding a b p k = record {
-    enough = λ fuel h.
-        comes_bind exact_loc l [] (comes_of a x refl) (λ l₁. comes_bind exact_loc a.within [] (comes_of b x refl) (λ l₂.
-        comes_bind exact_pattern_of b.within (Name []) (comes_of p x refl) (λ q. comes_bind (exact_readers fuel).body p.within (BV (SN [])) (k.enough fuel h) (λ v. comes_ret (BB l₁ l₂ q v) k.within))));
-    within = k.within;
-  }
+  goes_binding h = goes_of (λ fuel w. field refl exact_loc l h (λ l₁ d b h. field refl exact_loc b h (λ l₂ e b h. field refl exact_pattern_of b h (λ q p b h. comes_last (λ _. done_at _) (h.enough fuel w)))))
 
-  -- HC, HM, HD, HN, HR
-  pub goes_constant : {d e f r : Scan} → Reads loc x.mark s c d → Reads name x.mark s d e → Reads raw_field x.mark s e f → Goes (reader_of a_Body) x s f r → Goes (helper_after constant_after) x s c r
-  goes_constant a n t k = record {
-    enough = λ fuel h.
-        comes_bind exact_loc l [] (comes_of a x refl) (λ l₁. comes_bind exact_name a.within [] (comes_of n x refl) (λ m. comes_bind exact_raw_field n.within [] (comes_of t x refl) (λ w.
-        comes_bind (exact_readers fuel).body t.within (BV (SN [])) (k.enough fuel h) (λ b. comes_ret (HC l₁ m w b) k.within))));
-    within = k.within;
-  }
+  -- HC, HM, HD, HN
+  pub goes_constant : Field loc x.mark s c r (λ d. Field name x.mark s d r (λ e. Field raw_field x.mark s e r (λ f. Goes (reader_of a_Body) x s f r))) → Goes (helper_after constant_after) x s c r
+  goes_constant h = goes_of (λ fuel w. field refl exact_loc l h (λ l₁ d b h. field refl exact_name b h (λ n e b h. field refl exact_raw_field b h (λ t f b h. comes_last (λ _. done_at _) (h.enough fuel w)))))
 
-  pub goes_macro : {d e f u r : Scan} → Reads loc x.mark s c d → Reads name x.mark s d e → Reads raw_field x.mark s e f → Reads (sexp_at cons_limit) x.mark s f u
-      → Goes (reader_of a_form) x s u r → Goes (helper_after macro_after) x s c r
+  pub goes_macro : Field loc x.mark s c r (λ d. Field name x.mark s d r (λ e. Field raw_field x.mark s e r (λ f. Field (sexp_at cons_limit) x.mark s f r (λ u. Goes (reader_of a_form) x s u r))))
+      → Goes (helper_after macro_after) x s c r
   unfolding sexp
-  goes_macro a n t q k = record {
-    enough = λ fuel h.
-        comes_bind exact_loc l [] (comes_of a x refl) (λ l₁. comes_bind exact_name a.within [] (comes_of n x refl) (λ m. comes_bind exact_raw_field n.within [] (comes_of t x refl) (λ w.
-        comes_bind exact_sexp t.within (SN []) (comes_of q x refl) (λ v.
-        comes_bind (exact_readers fuel).form q.within (CF [] [] (SN []) []ʰ (BV (SN []))) (k.enough fuel h) (λ b. comes_ret (HM l₁ m w v b) k.within)))));
-    within = k.within;
-  }
+  goes_macro h = goes_of (λ fuel w. field refl exact_loc l h (λ l₁ d b h. field refl exact_name b h (λ n e b h. field refl exact_raw_field b h (λ t f b h. field refl exact_sexp b h (λ a u b h.
+      comes_last (λ _. done_at _) (h.enough fuel w))))))
 
-  pub goes_function : {d i e f u r : Scan} → Reads loc x.mark s c d → Reads (at_most malformed 1) x.mark s d i → Reads name x.mark s i e → Reads raw_field x.mark s e f
-      → Reads (sexp_at cons_limit) x.mark s f u → Goes (reader_of a_Body) x s u r → Goes (helper_after function_after) x s c r
+  pub goes_function : Field loc x.mark s c r (λ d. Field (at_most malformed 1) x.mark s d r (λ i. Field name x.mark s i r (λ e. Field raw_field x.mark s e r
+      (λ f. Field (sexp_at cons_limit) x.mark s f r (λ u. Goes (reader_of a_Body) x s u r))))) → Goes (helper_after function_after) x s c r
   unfolding sexp
-  goes_function a o n t q k = record {
-    enough = λ fuel h.
-        comes_bind exact_loc l [] (comes_of a x refl) (λ l₁. comes_bind (exact_up_to 1) a.within 0 (comes_of o x refl) (λ y. comes_bind exact_name o.within [] (comes_of n x refl) (λ m.
-        comes_bind exact_raw_field n.within [] (comes_of t x refl) (λ w. comes_bind exact_sexp t.within (SN []) (comes_of q x refl) (λ v.
-        comes_bind (exact_readers fuel).body q.within (BV (SN [])) (k.enough fuel h) (λ b. comes_ret (HD l₁ y m w v b) k.within))))));
-    within = k.within;
-  }
+  goes_function h = goes_of (λ fuel w. field refl exact_loc l h (λ l₁ d b h. field refl (exact_up_to 1) b h (λ y i b h. field refl exact_name b h (λ n e b h. field refl exact_raw_field b h (λ t f b h.
+      field refl exact_sexp b h (λ a u b h. comes_last (λ _. done_at _) (h.enough fuel w)))))))
 
-  pub goes_namespace : {d e f r : Scan} → Reads loc x.mark s c d → Reads name x.mark s d e → Reads raw_field x.mark s e f → Goes (many_of a_helper) x s f r → Goes (helper_after namespace_after) x s c r
-  goes_namespace a n t k = record {
-    enough = λ fuel h.
-        comes_bind exact_loc l [] (comes_of a x refl) (λ l₁. comes_bind exact_name a.within [] (comes_of n x refl) (λ m. comes_bind exact_raw_field n.within [] (comes_of t x refl) (λ w.
-        comes_assoc count _ _ (comes_bind (exact_many a_helper fuel) t.within [] (k.enough fuel h) (λ hs. comes_ret (HN l₁ m w (to_helpers hs)) k.within)))));
-    within = k.within;
-  }
+  pub goes_namespace : Field loc x.mark s c r (λ d. Field name x.mark s d r (λ e. Field raw_field x.mark s e r (λ f. Goes (many_of a_helper) x s f r))) → Goes (helper_after namespace_after) x s c r
+  goes_namespace h = goes_of (λ fuel w. field refl exact_loc l h (λ l₁ d b h. field refl exact_name b h (λ n e b h. field refl exact_raw_field b h (λ t f b h.
+      comes_assoc count (λ k. times k (readers fuel).helper) _ (comes_last (λ _. done_at _) (h.enough fuel w))))))
 
   -- CF
-  pub goes_form : {d e f u r : Scan} → Reads loc x.mark s c d → Reads raw_field x.mark s d e → Reads (sexp_at cons_limit) x.mark s e f → Goes (many_of a_helper) x s f u → Goes (reader_of a_Body) x s u r
+  pub goes_form : Field loc x.mark s c r (λ d. Field raw_field x.mark s d r (λ e. Field (sexp_at cons_limit) x.mark s e r (λ f. Child (many_of a_helper) x s f r (λ u. Goes (reader_of a_Body) x s u r))))
       → Goes (λ fuel. (Form, form_after (readers fuel))) x s c r
   unfolding sexp
-  goes_form a t q k b = record {
-    enough = λ fuel h.
-        comes_bind exact_loc l [] (comes_of a x refl) (λ l₁. comes_bind exact_raw_field a.within [] (comes_of t x refl) (λ w. comes_bind exact_sexp t.within (SN []) (comes_of q x refl) (λ v.
-        comes_assoc count _ _ (comes_bind (exact_many a_helper fuel) q.within [] (k.enough fuel h) (λ hs.
-        comes_bind (exact_readers fuel).body k.within (BV (SN [])) (b.enough fuel h) (λ y. comes_ret (CF l₁ w v (to_helpers hs) y) b.within))))));
-    within = b.within;
-  }
+  goes_form h = goes_of (λ fuel w. field refl exact_loc l h (λ l₁ d b h. field refl exact_raw_field b h (λ t e b h. field refl exact_sexp b h (λ a f b h. many_then b a_helper fuel w _ h (λ hs u b h.
+      comes_last (λ _. done_at _) (h.enough fuel w))))))
 
-pub reads_reference : {mark : ℕ} {s : Bytes} {c d e r : Scan} → c.at ≤ length s → Reads loc mark s c d → Reads name mark s d e → Reads raw_field mark s e r → Reads reference_after mark s c r
-reads_reference l a n t = reads_bind exact_loc l [] a (λ l₁. reads_bind exact_name a.within [] n (λ m. reads_bind exact_raw_field n.within [] t (λ w. reads_ret (HR l₁ m w) t.within)))
+  -- BL: its kind byte, and what stands after it
+  pub goes_let : Field (at_most malformed 2) x.mark s c r (λ d. Goes (let_of_kind (get_or s c.at 0)) x s d r) → Goes (body_after let_after) x s c r
+  goes_let h = goes_of (λ fuel w. byte_field _ refl (exact_up_to 2) l h (λ d b h. h.enough fuel w))
 
--- BL: its kind byte, and what stands after it
-module _ {x : Context} {s : Bytes} {c d : Scan} (l : c.at ≤ length s) (g : Reads (at_most malformed 2) x.mark s c d) where
-  pub let_stop : (d.refusal.number ≡ 0 → ⊥) → Goes (body_after let_after) x s c d
-  let_stop z = record { enough = λ fuel h. comes_stop (exact_up_to 2) l (comes_of g x refl) _ z; within = g.within }
+-- HR
+pub reads_reference : {mark : ℕ} {s : Bytes} {c : Scan} {r : Result Scan Refusal} → c.at ≤ length s → Field loc mark s c r (λ d. Field name mark s d r (λ e. Reads raw_field mark s e r)) → Reads reference_after mark s c r
+reads_reference l h = reads_of (λ x q. field q exact_loc l h (λ l₁ d b h. field q exact_name b h (λ n e b h. comes_last (λ _. done_at _) (comes_of h x q))))
 
-  pub let_there : {r : Scan} → d.refusal.number ≡ 0 → Goes (let_of_kind (get_or s c.at 0)) x s d r → Goes (body_after let_after) x s c r
-  let_there z k = record { enough = λ fuel h. comes_byte (exact_up_to 2) l (comes_of g x refl) _ z (λ _. k.enough fuel h) k.within; within = k.within }
+-- the levels of a let of n bindings are there, and its bindings and its body come, or they are not
+pub data Levels (k n : ℕ) (x : Context) (s : Bytes) (c : Scan) (r : Result Scan Refusal) : Type 0 where
+  too_deep : {e : Refusal} (more : ℕ) → more ≡ more_levels (kind_of k) n → x.room < more → e ≡ refusing 3 (place_at x.mark) → r ≡ Err e → Levels k n x s c r
+  levels : (more : ℕ) → more ≡ more_levels (kind_of k) n → more ≤ x.room
+      → Child (times_of n a_binding) (in_zone_of (binding_zone (kind_of k) x.zone) (below more x)) s c r (λ b. Goes (reader_of a_Body) (below more x) s b r) → Levels k n x s c r
 
-module _ {x : Context} {s : Bytes} {c d e f u : Scan} (l : c.at ≤ length s)
-    (a : Reads loc x.mark s c d) (w : Reads keyword x.mark s d e) (h : Reads hint x.mark s e f) (n : Reads count x.mark s f u) where
-  -- the fields before the count
-  let_fields : {r : Scan} (k fuel : ℕ) → r.at ≤ length s
-      → ((l₁ w₁ h₁ : Bytes) → Comes (count >>= λ n. deeper (more_levels (kind_of k) n) (in_bindings (kind_of k) (times n (binding (readers fuel).body)) >>= λ bs. (readers fuel).body >>= λ b. ret (BL (kind_of k) l₁ w₁ h₁ (to_bindings bs) b))) x s f r)
-      → Comes (let_of (readers fuel) (kind_of k)) x s c r
-  unfolding let_of
-  let_fields k fuel v m =
-      comes_bind exact_loc l [] (comes_of a x refl) (λ l₁. comes_bind exact_keyword a.within [] (comes_of w x refl) (λ w₁. comes_bind exact_hint w.within [] (comes_of h x refl) (λ h₁. m l₁ w₁ h₁)))
-
-  pub count_stop : (k : ℕ) → (u.refusal.number ≡ 0 → ⊥) → Goes (let_of_kind k) x s c u
-  count_stop k z = record { enough = λ fuel v. let_fields k fuel n.within (λ l₁ w₁ h₁. comes_stop exact_count h.within (comes_of n x refl) _ z); within = n.within }
-
-  pub let_deep : (k more : ℕ) → u.refusal.number ≡ 0 → more ≡ more_levels (kind_of k) (get_or s f.at 0) → x.room < more → Goes (let_of_kind k) x s c (refused_scan (length s) 3 (place_at x.mark))
-  let_deep k more z q o = record {
-    enough = λ fuel v. let_fields k fuel (omega arith) (λ l₁ w₁ h₁. comes_byte exact_count h.within (comes_of n x refl) _ z (λ _. comes_shallow _ _ (omega (arith, q)) z) (omega arith));
-    within = omega arith;
-  }
-
-  pub let_bindings : {b r : Scan} (k more : ℕ) → u.refusal.number ≡ 0 → more ≡ more_levels (kind_of k) (get_or s f.at 0) → more ≤ x.room
-      → Goes (times_of (get_or s f.at 0) a_binding) (in_zone_of (binding_zone (kind_of k) x.zone) (below more x)) s u b → Goes (reader_of a_Body) (below more x) s b r → Goes (let_of_kind k) x s c r
-  let_bindings {b} {r} k more z q o bs m = record {
-    enough = λ fuel v. let_fields k fuel m.within (λ l₁ w₁ h₁. comes_byte exact_count h.within (comes_of n x refl) _ z (λ _. levels fuel v l₁ w₁ h₁) m.within);
-    within = m.within;
-  }
+module _ {x : Context} {s : Bytes} {c : Scan} {r : Result Scan Refusal} (l : c.at ≤ length s) where
+  -- a let after its count
+  levels_then : (k n fuel : ℕ) → x.room ≤ fuel → (l₁ w₁ h₁ : Bytes) → Levels k n x s c r
+      → Comes (deeper (more_levels (kind_of k) n) (in_bindings (kind_of k) (times n (binding (readers fuel).body)) >>= λ bs. (readers fuel).body >>= λ b. ret (BL (kind_of k) l₁ w₁ h₁ (to_bindings bs) b))) x s c r
+  levels_then k n fuel w l₁ w₁ h₁ (too_deep more q o z v) = rw (v, ← q) (comes_shallow _ z more o)
+  levels_then k n fuel w l₁ w₁ h₁ (levels more q o h) = rw (← q) (comes_deeper more o
+      (bindings_then h))
     where
-      levels : (fuel : ℕ) → x.room ≤ fuel → (l₁ w₁ h₁ : Bytes)
-          → Comes (deeper (more_levels (kind_of k) (get_or s f.at 0)) (in_bindings (kind_of k) (times (get_or s f.at 0) (binding (readers fuel).body)) >>= λ bs. (readers fuel).body >>= λ b. ret (BL (kind_of k) l₁ w₁ h₁ (to_bindings bs) b))) x s u r
-      levels fuel v l₁ w₁ h₁ = subst (λ (j : ℕ). Comes (deeper j (in_bindings (kind_of k) (times (get_or s f.at 0) (binding (readers fuel).body)) >>= λ bs. (readers fuel).body >>= λ b. ret (BL (kind_of k) l₁ w₁ h₁ (to_bindings bs) b))) x s u r) q
-          (comes_deeper _ more o
-          (comes_bind (exact_in_bindings (kind_of k) (exact_times (get_or s f.at 0) (exact_of a_binding fuel))) n.within [] (comes_in_bindings _ (kind_of k) (bs.enough fuel (omega arith))) (λ y.
-          comes_bind (exact_readers fuel).body bs.within (BV (SN [])) (m.enough fuel (omega arith)) (λ v. comes_ret (BL (kind_of k) l₁ w₁ h₁ (to_bindings y) v) m.within))))
+      bindings_then : Child (times_of n a_binding) (in_zone_of (binding_zone (kind_of k) x.zone) (below more x)) s c r (λ b. Goes (reader_of a_Body) (below more x) s b r)
+          → Comes (in_bindings (kind_of k) (times n (binding (readers fuel).body)) >>= λ bs. (readers fuel).body >>= λ b. ret (BL (kind_of k) l₁ w₁ h₁ (to_bindings bs) b)) (below more x) s c r
+      bindings_then (past g m) = let u = comes_in_bindings _ (g.enough fuel (omega arith)) in comes_bind _ (exact_in_bindings (kind_of k) (exact_times n (exact_of a_binding fuel))) l u (λ bs. comes_last (λ _. done_at _) (m.enough fuel (omega arith)))
+      bindings_then (stop g z) = comes_stop _ (comes_in_bindings _ (g.enough fuel (omega arith))) z
+
+module _ {x : Context} {s : Bytes} {c : Scan} {r : Result Scan Refusal} (l : c.at ≤ length s) where
+  pub goes_let_of : (k : ℕ) → Field loc x.mark s c r (λ d. Field keyword x.mark s d r (λ e. Field hint x.mark s e r (λ f. Field count x.mark s f r (λ u. Levels k (get_or s f.at 0) x s u r)))) → Goes (let_of_kind k) x s c r
+  unfolding let_of
+  goes_let_of k h = goes_of (λ fuel w. field refl exact_loc l h (λ l₁ d b h. field refl exact_keyword b h (λ w₁ e b h. field refl exact_hint b h (λ h₁ f b h. byte_field _ refl exact_count b h (λ u b h.
+      levels_then b k (get_or s f.at 0) fuel w l₁ w₁ h₁ h)))))

@@ -2,7 +2,7 @@
 use mathlib.Core.Path.{◌≡◌, refl, ap, subst}
 use mathlib.Core.List.{List, [], ◌∷◌}
 use mathlib.Core.Logic.{◌⊎◌, inl, inr, ⊎_elim}
-use mathlib.Core.Option.{Option, none, some}
+use Rattle.std.specs.Prelude.{Option, None, Some}
 use Prim.Native.Nat.{ℕ, ◌+◌, ◌≤◌}
 use native.Mathlib.Omega.{arith}
 use lib.ListN.{length}
@@ -15,37 +15,37 @@ use Rattle.records.proofs.Spans.{inside_there}
 
 -- x is the least number with P; or no number has it
 abbrev pub Least : (ℕ → Type 0) → Option ℕ → Type 0
-Least P none = (q : ℕ) → P q → ⊥
-Least P (some p) = P p × ((q : ℕ) → P q → p ≤ q)
+Least P None = (q : ℕ) → P q → ⊥
+Least P (Some p) = P p × ((q : ℕ) → P q → p ≤ q)
 
 -- there is one at most
 module _ {P : ℕ → Type 0} where
-  pub least_none : (x : Option ℕ) → Least P x → ((q : ℕ) → P q → ⊥) → x ≡ none
-  least_none none h n = refl
-  least_none (some p) h n = absurd (n p h.0)
+  pub least_none : (x : Option ℕ) → Least P x → ((q : ℕ) → P q → ⊥) → x ≡ None
+  least_none None h n = refl
+  least_none (Some p) h n = absurd (n p h.0)
 
-  pub least_some : (x : Option ℕ) (p : ℕ) → Least P x → P p → ((q : ℕ) → P q → p ≤ q) → x ≡ some p
-  least_some none p h m n = absurd (h p m)
-  least_some (some q) p h m n = let e : q ≡ p = omega (arith, h.1 p m, n q h.0) in ap some e
+  pub least_some : (x : Option ℕ) (p : ℕ) → Least P x → P p → ((q : ℕ) → P q → p ≤ q) → x ≡ Some p
+  least_some None p h m n = absurd (h p m)
+  least_some (Some q) p h m n = let e : q ≡ p = omega (arith, h.1 p m, n q h.0) in ap Some e
 
 module _ {P Q : ℕ → Type 0} where
   -- P said otherwise
   least_so : (x : Option ℕ) → ((q : ℕ) → P q → Q q) → ((q : ℕ) → Q q → P q) → Least P x → Least Q x
-  least_so none f g h = λ q k. h q (g q k)
-  least_so (some p) f g h = (f p h.0, λ q k. h.1 q (g q k))
+  least_so None f g h = λ q k. h q (g q k)
+  least_so (Some p) f g h = (f p h.0, λ q k. h.1 q (g q k))
 
   -- n further on
   least_behind : (n : ℕ) (x : Option ℕ) → ((q : ℕ) → P q → Q (n + q)) → ((q : ℕ) → Q q → (r : ℕ) × P r × (q ≡ n + r)) → Least P x → Least Q (behind n x)
-  least_behind n none f g h = λ q k. let w = g q k in h w.0 w.1
-  least_behind n (some p) f g h = (f p h.0, λ q k. let w = g q k in let e = h.1 w.0 w.1 in omega (arith, w.2))
+  least_behind n None f g h = λ q k. let w = g q k in h w.0 w.1
+  least_behind n (Some p) f g h = (f p h.0, λ q k. let w = g q k in let e = h.1 w.0 w.1 in omega (arith, w.2))
 
 module _ {P Q R : ℕ → Type 0} where
   -- P or Q, and what has P comes first
   least_earlier : (x y : Option ℕ) → ((q : ℕ) → P q → R q) → ((q : ℕ) → Q q → R q) → ((q : ℕ) → R q → P q ⊎ Q q)
       → ((p q : ℕ) → P p → Q q → p ≤ q) → Least P x → Least Q y → Least R (earlier x y)
-  least_earlier none none f g s c h k = λ q r. ⊎_elim (λ a. h q a) (λ b. k q b) (s q r)
-  least_earlier none (some p) f g s c h k = (g p k.0, λ q r. ⊎_elim (λ a. absurd (h q a)) (λ b. k.1 q b) (s q r))
-  least_earlier (some p) y f g s c h k = (f p h.0, λ q r. ⊎_elim (λ a. h.1 q a) (λ b. c p q h.0 b) (s q r))
+  least_earlier None None f g s c h k = λ q r. ⊎_elim (λ a. h q a) (λ b. k q b) (s q r)
+  least_earlier None (Some p) f g s c h k = (g p k.0, λ q r. ⊎_elim (λ a. absurd (h q a)) (λ b. k.1 q b) (s q r))
+  least_earlier (Some p) y f g s c h k = (f p h.0, λ q r. ⊎_elim (λ a. h.1 q a) (λ b. c p q h.0 b) (s q r))
 
 -- in one of the spans something has S
 pub data InSpans (S : Node → ℕ → Type 0) (xs : List Span) : ℕ → Type 0 where
@@ -54,7 +54,7 @@ pub data InSpans (S : Node → ℕ → Type 0) (xs : List Span) : ℕ → Type 0
 -- the least number with S in each of the spans that is a node
 data FirstOfEach (S : Node → ℕ → Type 0) : List Span → List (Bytes × Option ℕ) → Type 0 where
   no_more : FirstOfEach S [] []
-  skip : {bs : Bytes} {xs : List Span} {ys : List (Bytes × Option ℕ)} → FirstOfEach S xs ys → FirstOfEach S (text bs ∷ xs) ((bs, none) ∷ ys)
+  skip : {bs : Bytes} {xs : List Span} {ys : List (Bytes × Option ℕ)} → FirstOfEach S xs ys → FirstOfEach S (text bs ∷ xs) ((bs, None) ∷ ys)
   also : {u : Node} {xs : List Span} {ys : List (Bytes × Option ℕ)} (y : Option ℕ) → Least (S u) y → FirstOfEach S xs ys
       → FirstOfEach S (sub u ∷ xs) ((node_bytes u, y) ∷ ys)
 
@@ -270,7 +270,7 @@ none_in_mod l f t e q (in_assign itself a m) = let z : ◌≡◌ {A = ℕ} 0 1 =
 none_in_mod l f t e q (in_assign (further_in n a i) b m) = n l f e
 
 -- a BM is the first in itself where every BM counts
-mod_least : (z : Zone) (l : Loc) (f : Form) → Least (Sought z (body_node (BM l f))) (noted z none 0)
+mod_least : (z : Zone) (l : Loc) (f : Form) → Least (Sought z (body_node (BM l f))) (noted z None 0)
 unfolding noted
 mod_least Plain l f = none_in_mod l f _ refl
 mod_least InBinding l f = ((l, f, itself), λ q k. omega arith)

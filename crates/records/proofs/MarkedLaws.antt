@@ -1,4 +1,4 @@
--- What is known of a record by its mark: how long it is at least, the trees of each B and H mark, and a number that is no mark. Assumes nothing.
+-- What is known of a record by its mark: how long it is at least, and the trees of each B and H mark. Assumes nothing.
 use mathlib.Core.Path.{◌≡◌, refl, ap, subst, ◌∙◌}
 use mathlib.Core.List.{List, flatten}
 use Prim.Native.Nat.{ℕ, zero, suc, ◌≤◌}
@@ -13,7 +13,6 @@ use Rattle.records.specs.declared.Family.TheVariants.{Body as a_Body, Binding as
 use Rattle.records.specs.Parts.{family_part}
 use Rattle.records.specs.Records.{mark_width, record_bytes, Loc, Kind, Sexp, Body, BL, BQ, BV, BC, BM, BF, body_bytes, Bodies, Tail, BB, binding_bytes, Bindings, Helper, HC, HM, HD, HN, HR, helper_bytes, Helpers, Form, CF, form_bytes}
 use Rattle.records.specs.Scan.{mark_index, body_marks, helper_marks}
-use Rattle.records.proofs.RecordLaws.{index_bound}
 
 -- a record is no shorter than its mark
 long : (m : String) (fs : List Bytes) → length (ascii m) ≡ mark_width → mark_width ≤ length (record_bytes m fs)
@@ -79,10 +78,3 @@ helper_by_mark P q f (HM l n r a c) e = subst (λ (j : ℕ). HelperOf j P) (q �
 helper_by_mark P q f (HD l i n r a b) e = subst (λ (j : ℕ). HelperOf j P) (q ∙ mark_there "HD" _ helper_marks 2 refl refl e) f l i n r a b
 helper_by_mark P q f (HN l n r hs) e = subst (λ (j : ℕ). HelperOf j P) (q ∙ mark_there "HN" _ helper_marks 3 refl refl e) f l n r hs
 helper_by_mark P q f (HR l n r) e = subst (λ (j : ℕ). HelperOf j P) (q ∙ mark_there "HR" _ helper_marks 4 refl refl e) f l n r
-
--- a place that is none of the six, or of the five
-pub no_body : {k : ℕ} (x : Bytes) → k ≡ mark_index x body_marks → ((((((Unit {0} × (k ≡ 0 → ⊥)) × (k ≡ 1 → ⊥)) × (k ≡ 2 → ⊥)) × (k ≡ 3 → ⊥)) × (k ≡ 4 → ⊥)) × (k ≡ 5 → ⊥)) → 6 ≡ mark_index x body_marks
-no_body x e r = omega (arith, index_bound x body_marks, r.1, r.0.1, r.0.0.1, r.0.0.0.1, r.0.0.0.0.1, r.0.0.0.0.0.1)
-
-pub no_helper : {k : ℕ} (x : Bytes) → k ≡ mark_index x helper_marks → (((((Unit {0} × (k ≡ 0 → ⊥)) × (k ≡ 1 → ⊥)) × (k ≡ 2 → ⊥)) × (k ≡ 3 → ⊥)) × (k ≡ 4 → ⊥)) → 5 ≡ mark_index x helper_marks
-no_helper x e r = omega (arith, index_bound x helper_marks, r.1, r.0.1, r.0.0.1, r.0.0.0.1, r.0.0.0.0.1)

@@ -3,7 +3,7 @@
 use mathlib.Core.Path.{◌≡◌, refl, ap, sym, ◌∙◌}
 use mathlib.Core.Bool.{true}
 use mathlib.Core.Logic.{◌↔◌}
-use mathlib.Core.Option.{Option, some}
+use Rattle.std.specs.Prelude.{Option, Some}
 use Prim.Native.Nat.{ℕ, ◌≤◌}
 use lib.Dec.{leb, le→leb}
 use lib.ListN.{length}
@@ -74,7 +74,7 @@ module _ {A : Type 0} {m : Reader A} {f : A → Bytes} {Valid Clear : A → Type
             let (t, q, g, w) = (rw e at (through m F work c input)).2 refl in
             let d : p ≡ q = ap (λ (x : Place). x.start) w in
             let h = read_given b g in
-            let k : Least (AssignMod (node t)) (some q) = rw h.1 at (first_least t) in
+            let k : Least (AssignMod (node t)) (Some q) = rw h.1 at (first_least t) in
             (t, h.0, rw d (record { there = k.0; least = k.1 }))
 
     -- opened as t exactly if there is none

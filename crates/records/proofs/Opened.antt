@@ -2,7 +2,7 @@
 -- Assumes nothing.
 use mathlib.Core.Path.{◌≡◌, refl}
 use mathlib.Core.Bool.{Bool, true, false, ◌&&◌}
-use mathlib.Core.Option.{Option, none, some}
+use Rattle.std.specs.Prelude.{Option, None, Some}
 use Prim.Native.Nat.{ℕ, ◌*◌, ◌≤◌, ◌<◌}
 use native.Mathlib.Omega.{arith}
 use lib.Dec.{T, leb, leb→le}
@@ -23,7 +23,7 @@ pub record OpenedFrom {A : Type 0} (reader : Reader A) (F c : ℕ) (input : Byte
   pub longest : F ≤ most_longest
   pub counter : c ≤ max_counter
   pub size : length input ≤ F
-  pub read : read_whole reader input ≡ whole a none
+  pub read : read_whole reader input ≡ whole a None
 
 -- F, work memory and counter of a call within its limits
 module _ (F work c : ℕ) where
@@ -86,8 +86,8 @@ module _ {A : Type 0} (reader : Reader A) (F work c : ℕ) (input : Bytes) where
 
   -- what an input that is opened has passed, and one that is refused with 4
   abbrev pub Through : Opened A → Type 0
-  Through (opened a) = ReadAs a none
-  Through (closed r) = (1 ≤ r.number) × (r.number ≤ 4) × (r.number ≡ 4 → (a : A) × (p : ℕ) × ReadAs a (some p) × (r.place ≡ place_at p))
+  Through (opened a) = ReadAs a None
+  Through (closed r) = (1 ≤ r.number) × (r.number ≤ 4) × (r.number ≡ 4 → (a : A) × (p : ℕ) × ReadAs a (Some p) × (r.place ≡ place_at p))
 
   -- a refusal by another number
   by_other : (n : ℕ) (p : Place) → 1 ≤ n → n < 4 → Through (closed (refusing n p))
@@ -95,8 +95,8 @@ module _ {A : Type 0} (reader : Reader A) (F work c : ℕ) (input : Bytes) where
 
   by_read : limits F work c ≡ true → length input ≤ F → (w : Whole A) → read_whole reader input ≡ w → Through (no_mod w)
   unfolding no_mod fault_number
-  by_read l k (whole a none) e = record { within = l; size = k; read = e }
-  by_read l k (whole a (some p)) e = (omega arith, omega arith, λ _. (a, p, record { within = l; size = k; read = e }, refl))
+  by_read l k (whole a None) e = record { within = l; size = k; read = e }
+  by_read l k (whole a (Some p)) e = (omega arith, omega arith, λ _. (a, p, record { within = l; size = k; read = e }, refl))
   by_read l k (unread malformed p) e = by_other 2 p (omega arith) (omega arith)
   by_read l k (unread over_limit p) e = by_other 3 p (omega arith) (omega arith)
 

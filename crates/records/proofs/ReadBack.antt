@@ -3,7 +3,7 @@ use mathlib.Core.Path.{◌≡◌, refl, ap, sym, ◌∙◌}
 use mathlib.Core.Bool.{Bool, true}
 use mathlib.Core.Logic.{inl, inr}
 use mathlib.Core.List.{List, [], ◌∷◌, ◌++◌, flatten, append_assoc, append-nil}
-use mathlib.Core.Option.{Option, none, some}
+use Rattle.std.specs.Prelude.{Option, None, Some}
 use Prim.Native.Nat.{ℕ, zero, suc, ◌+◌, ◌-◌, ◌≤◌}
 use Prim.Native.String.{String}
 use native.Mathlib.Nat.{zero-add, div-one}
@@ -34,12 +34,12 @@ pub record Ends {A : Type 0} (x : Option ℕ) (i : Input) (bs : Bytes) (a : A) (
 -- with room n, k lambdas and zone z, m reads bs as a, whatever follows; x is the first BM that it notes, and there is none exactly if Q
 pub record Reads {A : Type 0} (Q : Type 0) (x : Option ℕ) (n k : ℕ) (z : Zone) (m : Reader A) (bs : Bytes) (a : A) : Type 0 where
   pub reads : (p : ℕ) (i : Input) (more : Bytes) → i.rest ≡ bs ++ more → Ends x i bs a more (m (context p n k z) i)
-  pub clear : x ≡ none → Q
-  pub stays : Q → x ≡ none
+  pub clear : x ≡ None → Q
+  pub stays : Q → x ≡ None
 
 -- no BM is among what is read
 abbrev pub Quiet : {A : Type 0} → ℕ → ℕ → Zone → Reader A → Bytes → A → Type 0
-Quiet n k z m bs a = Reads (Unit {0}) none n k z m bs a
+Quiet n k z m bs a = Reads (Unit {0}) None n k z m bs a
 
 module _ {A : Type 0} {Q : Type 0} {x : Option ℕ} {n k : ℕ} {z : Zone} {m : Reader A} {bs : Bytes} {a : A} where
   -- the same said otherwise
@@ -47,7 +47,7 @@ module _ {A : Type 0} {Q : Type 0} {x : Option ℕ} {n k : ℕ} {z : Zone} {m : 
   reads_so f g s = record { reads = s.reads; clear = λ h. g (s.clear h); stays = λ q. s.stays (f q) }
 
   -- where there is none
-  pub reads_quiet : x ≡ none → Reads Q x n k z m bs a → Quiet n k z m bs a
+  pub reads_quiet : x ≡ None → Reads Q x n k z m bs a → Quiet n k z m bs a
   reads_quiet h s = record { reads = λ p i more e. rw h at (s.reads p i more e); clear = λ _. tt; stays = λ _. refl }
 
   pub reads_check : (y : Fault) {ok : Bool} → ok ≡ true → Reads Q x n k z m bs a → Reads Q x n k z (check y ok m) bs a
@@ -71,10 +71,10 @@ module _ {A : Type 0} {Q : Type 0} {x : Option ℕ} {n k : ℕ} {z : Zone} {m : 
   reads_in_bindings y s = record { reads = s.reads; clear = s.clear; stays = s.stays }
 
 -- neither is a BM noted before nor behind
-both_clear : (n : ℕ) (x y : Option ℕ) → earlier x (behind n y) ≡ none → (x ≡ none) × (y ≡ none)
-both_clear n none none h = (refl, refl)
-both_clear n none (some q) h = absurd (let z : ◌≡◌ {A = ℕ} 0 1 = cc in omega arith)
-both_clear n (some p) y h = absurd (let z : ◌≡◌ {A = ℕ} 0 1 = cc in omega arith)
+both_clear : (n : ℕ) (x y : Option ℕ) → earlier x (behind n y) ≡ None → (x ≡ None) × (y ≡ None)
+both_clear n None None h = (refl, refl)
+both_clear n None (Some q) h = absurd (let z : ◌≡◌ {A = ℕ} 0 1 = cc in omega arith)
+both_clear n (Some p) y h = absurd (let z : ◌≡◌ {A = ℕ} 0 1 = cc in omega arith)
 
 module _ {A B : Type 0} {Q R : Type 0} {x y : Option ℕ} {n k : ℕ} {z : Zone} {m : Reader A} {bs cs : Bytes} {a : A} {b : B} where
   -- one after the other
@@ -112,20 +112,20 @@ module _ {A : Type 0} {n k : ℕ} {z : Zone} {a b : A} where
 
 module _ {A B : Type 0} {Q : Type 0} {x : Option ℕ} {n k : ℕ} {z : Zone} {m : Reader A} {bs : Bytes} {a : A} {b : B} where
   -- m stands last
-  pub reads_last : (g : A → B) → g a ≡ b → Reads Q x n k z m bs a → Reads Q (earlier x none) n k z (m >>= λ y. ret (g y)) (bs ++ []) b
+  pub reads_last : (g : A → B) → g a ≡ b → Reads Q x n k z m bs a → Reads Q (earlier x None) n k z (m >>= λ y. ret (g y)) (bs ++ []) b
   reads_last g q s = reads_so (λ y. (y, tt)) (λ y. y.0) (reads_both (λ y. ret (g y)) s (reads_ret q))
 
-  pub reads_then : (g : A → B) → g a ≡ b → Reads Q x n k z m bs a → Reads Q (earlier x none) n k z (m >>= λ y. ret (g y)) bs b
+  pub reads_then : (g : A → B) → g a ≡ b → Reads Q x n k z m bs a → Reads Q (earlier x None) n k z (m >>= λ y. ret (g y)) bs b
   reads_then g q s = rw append-nil at (reads_last g q s)
 
 -- a BM is noted exactly in a binding body of an assign
-clear_noted : (z : Zone) → noted z none 0 ≡ none → Outside z
+clear_noted : (z : Zone) → noted z None 0 ≡ None → Outside z
 unfolding noted Outside
 clear_noted Plain h = tt
 clear_noted InBinding h = absurd (let x : ◌≡◌ {A = ℕ} 0 1 = cc in omega arith)
 clear_noted InMod h = tt
 
-stays_noted : (z : Zone) → Outside z → noted z none 0 ≡ none
+stays_noted : (z : Zone) → Outside z → noted z None 0 ≡ None
 unfolding noted Outside
 stays_noted Plain q = refl
 stays_noted InBinding q = absurd q
@@ -152,7 +152,7 @@ module _ {A : Type 0} {n k : ℕ} {z : Zone} (m : Reader A) where
   reads_none = reads_ret refl
 
   pub reads_more : {Q R : Type 0} {x y : Option ℕ} (c : ℕ) {bs cs : Bytes} {a : A} {l : List A} → Reads Q x n k z m bs a → Reads R y n k z (times c m) cs l
-      → Reads (Q × R) (earlier x (behind (length bs) (earlier y none))) n k z (times (suc c) m) (bs ++ cs) (a ∷ l)
+      → Reads (Q × R) (earlier x (behind (length bs) (earlier y None))) n k z (times (suc c) m) (bs ++ cs) (a ∷ l)
   unfolding times
   reads_more c {a} s t = reads_both _ s (reads_then (λ l. a ∷ l) refl t)
 
@@ -228,7 +228,7 @@ module _ {A : Type 0} {n k : ℕ} {z : Zone} {bs : Bytes} {a : A} where
   -- a record whose mark is noted, and nothing in it
   pub reads_noted : (es : List (String × Reader A)) (s : String) (m : Reader A) → length (ascii s) ≡ mark_width
       → choose (ascii s) es ≡ deeper 1 (note >> m) → 1 ≤ n → Quiet (n - 1) k z m bs a
-      → Reads (Outside z) (noted z none 0) n k z (marked es) (ascii s ++ bs) a
+      → Reads (Outside z) (noted z None 0) n k z (marked es) (ascii s ++ bs) a
   unfolding marked ◌>>=◌ ◌>>◌ deeper note
   reads_noted es s m q h l t = record {
     reads = λ p i more e.

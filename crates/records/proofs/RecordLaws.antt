@@ -1,8 +1,8 @@
 -- Records in the form in which the code meets them: a mark and what stands with it, and a child in a part of its own. Assumes nothing.
 use mathlib.Core.Path.{◌≡◌, refl, ap, sym, ◌∙◌, subst}
 use mathlib.Core.Bool.{Bool, true, false, cond}
-use mathlib.Core.List.{List, [], ◌∷◌, ◌++◌, map}
-use mathlib.Core.Option.{Option}
+use mathlib.Core.List.{List, [], ◌∷◌, map}
+use Rattle.std.specs.Prelude.{Option, Result, Ok, Err, IsErrAnd}
 use Prim.Native.Nat.{ℕ, zero, suc, ◌+◌, ◌-◌, ◌≤◌, ◌<◌}
 use Prim.Native.String.{String}
 use native.Mathlib.Nat.{add-zero, zero-add}
@@ -11,16 +11,16 @@ use lib.Dec.{T, eqb, eqb→eq}
 use lib.ListN.{length, take, drop, length-drop, get_or}
 use lib.Seq.{take_at}
 use Rattle.names.specs.Names.{Bytes, ascii, same}
-use Rattle.names.specs.Refusals.{place_at}
+use Rattle.names.specs.Refusals.{place_at, refusing}
+use Rattle.names.specs.declared.Refusal.{Refusal}
 use Rattle.records.specs.Records.{mark_width}
 use Rattle.records.specs.declared.Scan.{Scan}
 use Rattle.records.specs.Read.{Context}
 use Rattle.records.specs.ReadFields.{Input, Read, done, refused, Fault, malformed, fault_number, Reader, ◌>>=◌, refuse, bytes, choose, marked}
-use Rattle.records.specs.Scan.{mod_number, mod_offset, scan_of, input_at, refused_scan, Comes, mark_index}
+use Rattle.records.specs.Scan.{scan_of, input_at, Within, Comes, mark_index}
 use Rattle.records.proofs.Exact.{Exact, exact_bytes}
-use Rattle.records.proofs.Scans.{scan, by_number, going, staying, comes_then, reads_enough, reads_short}
+use Rattle.records.proofs.Scans.{scan, comes_then, comes_stop}
 use Rattle.names.proofs.Same.{same→eq}
-use native.Mathlib.Decide.{dec_le}
 
 -- the context of a record with another mark
 abbrev pub at_mark : ℕ → Context → Context
@@ -38,35 +38,34 @@ pub own_marked : {A : Type 0} (es : List (String × Reader A)) → OwnMark (mark
 unfolding marked
 own_marked es k x i = refl
 
+-- a reading of a part that starts n bytes further on
+abbrev pub further : ℕ → Result Scan Refusal → Result Scan Refusal
+further n (Ok d) = Ok (scan (n + d.at) d.first)
+further n (Err e) = Err e
+
 -- a child record, read as a part that starts at its mark
-module _ {A : Type 0} {P : A → Type 0} {f : A → Bytes} {m : Reader A} {x : Context} {s : Bytes} {c r : Scan} where
-  pub comes_child : OwnMark m → Exact P f [] m → c.at ≤ length s → c.refusal.number ≡ 0
-      → Comes m (at_mark (x.mark + c.at) x) (drop c.at s) (scan 0 c.refusal c.first) r
-      → Comes m x s c (scan (c.at + r.at) r.refusal r.first)
+module _ {A : Type 0} {P : A → Type 0} {f : A → Bytes} {m : Reader A} {x : Context} {s : Bytes} {c : Scan} where
+  pub comes_child : {r : Result Scan Refusal} → OwnMark m → Exact P f [] m → c.at ≤ length s → Comes m (at_mark (x.mark + c.at) x) (drop c.at s) (scan 0 c.first) r
+      → Comes m x s c (further c.at r)
   unfolding input_at scan_of
-  comes_child u e l z h = record { there = moved (m x (input_at x.mark s c)) refl part ∙ sym (going m x s c z); within = omega (arith, h.within, length-drop c.at s) }
+  comes_child {r} u e l h = record { there = moved r (m x (input_at x.mark s c)) refl part; within = inside r h.within }
     where
-      y : Context
-      y = at_mark (x.mark + c.at) x
+      same_input : input_at (x.mark + c.at) (drop c.at s) (scan 0 c.first) ≡ input_at x.mark s c
+      same_input = let q : x.mark + c.at + 0 ≡ x.mark + c.at = omega arith in ap (λ (k : ℕ). input k (drop c.at s) c.first) q
 
-      b : Scan
-      b = scan 0 c.refusal c.first
+      part : r ≡ scan_of (x.mark + c.at) (m x (input_at x.mark s c))
+      part = h.there ∙ ap (scan_of (x.mark + c.at)) (u (x.mark + c.at) x _ ∙ ap (m x) same_input)
 
-      same_input : input_at (x.mark + c.at) (drop c.at s) b ≡ input_at x.mark s c
-      same_input = let q : x.mark + c.at + 0 ≡ x.mark + c.at = omega arith in ap (λ (k : ℕ). input k (drop c.at s) (mod_offset c.first)) q
+      inside : (r : Result Scan Refusal) → Within (drop c.at s) r → Within s (further c.at r)
+      inside (Ok d) w = omega (arith, length-drop c.at s)
+      inside (Err e) w = tt
 
-      part : r ≡ scan_of (x.mark + c.at) (length (drop c.at s)) b (m x (input_at x.mark s c))
-      part = h.there ∙ going m y (drop c.at s) b z ∙ ap (scan_of (x.mark + c.at) (length (drop c.at s)) b) (u (x.mark + c.at) x _ ∙ ap (m x) same_input)
-
-      moved : (o : Read A) → m x (input_at x.mark s c) ≡ o → r ≡ scan_of (x.mark + c.at) (length (drop c.at s)) b o
-          → scan (c.at + r.at) r.refusal r.first ≡ scan_of x.mark (length s) c o
-      moved (done a j) q w =
+      moved : (r : Result Scan Refusal) (o : Read A) → m x (input_at x.mark s c) ≡ o → r ≡ scan_of (x.mark + c.at) o → further c.at r ≡ scan_of x.mark o
+      moved r (done a j) q w =
           let t = e.takes x (input_at x.mark s c) a j q in
           let n : c.at + (j.offset - (x.mark + c.at)) ≡ j.offset - x.mark = omega (arith, t.2) in
-          ap (λ (v : Scan). scan (c.at + v.at) v.refusal v.first) w ∙ ap (λ (k : ℕ). scan k c.refusal (mod_number j.first_mod)) n
-      moved (refused g p) q w =
-          let n : c.at + length (drop c.at s) ≡ length s = omega (arith, length-drop c.at s) in
-          ap (λ (v : Scan). scan (c.at + v.at) v.refusal v.first) w ∙ ap (λ (k : ℕ). refused_scan k (fault_number g) p) n
+          ap (further c.at) w ∙ ap (λ (k : ℕ). Ok (scan k j.first_mod)) n
+      moved r (refused g p) q w = ap (further c.at) w
 
 -- marks by their places
 pub index_mark : (x : Bytes) (ms : List String) (k : ℕ) → mark_index x ms ≡ k → k < length ms → x ≡ ascii (get_or ms k "")
@@ -131,41 +130,36 @@ index_none {A} x (e ∷ es) q = go (same x (ascii e.0)) q (index_none x es)
     go true w ih = absurd (omega arith)
     go false w ih = ih (omega arith)
 
--- a refusal, by a reader that reads nothing, and by one that finds too few bytes
-pub comes_refuse : {A : Type 0} {x : Context} {s : Bytes} {c : Scan} (f : Fault) → c.refusal.number ≡ 0 → Comes {A = A} (refuse f) x s c (refused_scan (length s) (fault_number f) (place_at x.mark))
+-- a refusal, by a reader that reads nothing
+pub comes_refuse : {A : Type 0} {x : Context} {s : Bytes} {c : Scan} {e : Refusal} (f : Fault) → e ≡ refusing (fault_number f) (place_at x.mark) → Comes {A = A} (refuse f) x s c (Err e)
 unfolding refuse scan_of
-comes_refuse {A} {x} {s} {c} f z = record { there = sym (going {A = A} (refuse f) x s c z); within = omega arith }
-
-bytes_refused : {x : Context} {s : Bytes} {c d : Scan} (n : ℕ) → c.at ≤ length s → c.refusal.number ≡ 0 → Comes (bytes n) x s c d → (d.refusal.number ≡ 0 → ⊥) → d ≡ refused_scan (length s) 2 (place_at x.mark)
-bytes_refused {x} {s} {c} {d} n l z g h = elim (dec_le n (length s - c.at)) [
-  | yes e ↦ absurd (h (ap (λ (t : Scan). t.refusal.number) (g.there ∙ sym ((reads_enough n x.mark s c l z e).anywhere x refl)) ∙ z))
-  | no e ↦ g.there ∙ sym ((reads_short n x.mark s c l z (omega arith)).anywhere x refl)
-]
+comes_refuse f z = record { there = ap Err z; within = tt }
 
 -- a record: its mark, and what stands with it
 module _ {A : Type 0} (es : List (String × Reader A)) {x : Context} {s : Bytes} {c : Scan} (start : c.at ≡ 0) where
-  marked_here : {r : Scan} → Comes (bytes mark_width >>= λ w. choose w es) x s c r → Comes (marked es) x s c r
+  marked_here : {r : Result Scan Refusal} → Comes (bytes mark_width >>= λ w. choose w es) x s c r → Comes (marked es) x s c r
   unfolding marked input_at
-  marked_here {r} h = record { there = h.there ∙ by_number c (λ z. going _ x s c z ∙ ap (scan_of x.mark (length s) c) (here (x.mark + c.at) (omega arith)) ∙ sym (going (marked es) x s c z)) (λ z. staying _ x s c z ∙ sym (staying (marked es) x s c z)); within = h.within }
+  marked_here h = record { there = h.there ∙ ap (scan_of x.mark) (here (x.mark + c.at) (omega arith)); within = h.within }
     where
       here : (k : ℕ) → k ≡ x.mark → (bytes mark_width >>= λ w. choose w es) x (input_at x.mark s c) ≡ (bytes mark_width >>= λ w. choose w es) (at_mark k x) (input_at x.mark s c)
       here k q = ap (λ (n : ℕ). (bytes mark_width >>= λ w. choose w es) (at_mark n x) (input_at x.mark s c)) (sym q)
 
-  module _ {d : Scan} (g : Comes (bytes mark_width) x s c d) where
-    -- the two bytes that are read
-    word : (a : Bytes) → length a ≡ mark_width → drop c.at s ≡ a ++ drop d.at s → a ≡ take mark_width (drop 0 s)
-    word a p b = sym (ap (take mark_width) (ap (λ (n : ℕ). drop n s) (sym start) ∙ b) ∙ take_at a _ mark_width p)
+  -- no mark stands there
+  pub comes_unread : {e : Refusal} {r : Result Scan Refusal} → Comes (bytes mark_width) x s c (Err e) → IsErrAnd r (λ y. y ≡ e) → Comes (marked es) x s c r
+  comes_unread g z = marked_here (comes_stop _ g z)
+
+  module _ {d : Scan} (g : Comes (bytes mark_width) x s c (Ok d)) where
+    -- the two bytes that are read choose
+    chosen : {r : Result Scan Refusal} → Comes (choose (take mark_width (drop 0 s)) es) x s d r → Comes (marked es) x s c r
+    chosen {r} h =
+        marked_here (comes_then _ (exact_bytes mark_width) (omega (arith, start)) g
+        (λ a p b. subst (λ (v : Bytes). Comes (choose v es) x s d r) (ap (take mark_width) (ap (λ (n : ℕ). drop n s) (sym start) ∙ b) ∙ take_at a _ mark_width p) h))
 
     -- the mark is w, with which k stands
-    pub comes_marked : {r : Scan} (w : String) (k : Reader A) → choose (ascii w) es ≡ k → take mark_width (drop 0 s) ≡ ascii w → Comes k x s d r → Comes (marked es) x s c r
-    comes_marked {r} w k q t h =
-        marked_here (comes_then (exact_bytes mark_width) (omega (arith, start)) g (λ z. h.there ∙ staying k x s d z) h.within
-        (λ a p y b. subst (λ (v : Reader A). Comes v x s d r) (sym (ap (λ (v : Bytes). choose v es) (word a p b ∙ t) ∙ q)) h))
+    pub comes_marked : {r : Result Scan Refusal} (w : String) (k : Reader A) → choose (ascii w) es ≡ k → take mark_width (drop 0 s) ≡ ascii w → Comes k x s d r → Comes (marked es) x s c r
+    comes_marked {r} w k q t h = chosen (subst (λ (v : Reader A). Comes v x s d r) (sym (ap (λ (v : Bytes). choose v es) t ∙ q)) h)
 
     -- the mark is none of them
-    pub comes_unmarked : c.refusal.number ≡ 0 → choose (take mark_width (drop 0 s)) es ≡ refuse malformed → Comes (marked es) x s c (refused_scan (length s) 2 (place_at x.mark))
+    pub comes_unmarked : {e : Refusal} → choose (take mark_width (drop 0 s)) es ≡ refuse malformed → e ≡ refusing 2 (place_at x.mark) → Comes (marked es) x s c (Err e)
     unfolding fault_number
-    comes_unmarked z q =
-        let l : c.at ≤ length s = omega (arith, start) in
-        marked_here (comes_then (exact_bytes mark_width) l g (λ h. sym (bytes_refused mark_width l z g h)) (omega arith)
-        (λ a p y b. subst (λ (v : Reader A). Comes v x s d (refused_scan (length s) 2 (place_at x.mark))) (sym (ap (λ (v : Bytes). choose v es) (word a p b) ∙ q)) (comes_refuse malformed y)))
+    comes_unmarked {e} q z = chosen (subst (λ (v : Reader A). Comes v x s d (Err e)) (sym q) (comes_refuse malformed z))

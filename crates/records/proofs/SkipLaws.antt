@@ -1,5 +1,6 @@
 -- The length of each kind of record, from the ends of its fields and children. Assumes nothing.
 use mathlib.Core.Path.{◌≡◌, refl, sym}
+use mathlib.Core.Logic.{◌⊎◌, inl, inr}
 use mathlib.Core.List.{List, [], ◌∷◌, ◌++◌, append_assoc, flatten}
 use Prim.Native.Nat.{ℕ, ◌+◌, ◌≤◌, ◌<◌}
 use Prim.Native.String.{String}
@@ -13,11 +14,14 @@ use Rattle.records.specs.declared.TaggedView.{TaggedView}
 use Rattle.records.specs.Depth.{depth, tail_depth, binding_depth, helper_depth, form_depth}
 use Rattle.records.specs.Lists.{joined}
 use Rattle.records.specs.Parts.{Part, family_part, sexp_part, fixed_part, list_part, many_part, tail_part, named_part, name_part, raw_part, keyword_part, hint_part, pattern_part, Skips, Past}
-use Rattle.records.specs.Records.{mark_width, loc_width, byte, record_bytes, Loc, Kind, kind_field, Sexp, Body, BL, BQ, BV, BC, BM, BF, body_bytes, Bodies, Tail, no_tail, tail, tail_bytes, Binding, BB, binding_bytes, Bindings, HC, HM, HD, HN, HR, helper_bytes, Helpers, Form, CF, form_bytes}
-use Rattle.records.specs.Scan.{mark_index, body_marks, helper_marks}
+use Rattle.records.specs.Records.{mark_width, loc_width, byte, record_bytes, Loc, Kind, kind_field, Sexp, Body, BL, BC, BM, BF, body_bytes, Bodies, Tail, no_tail, tail, tail_bytes, Binding, BB, binding_bytes, Bindings, HC, HM, HD, HN, HR, helper_bytes, Helpers, Form, CF, form_bytes}
+use Rattle.records.specs.Scan.{mark_index, body_marks, body_mark_at, helper_marks}
+use Rattle.records.specs.declared.BodyMark.TheVariants.{Quoted, Value}
+use Rattle.std.specs.declared.option.Option.TheVariants.{Some}
 use Rattle.records.specs.Valid.{BodyFields, TailFields, BindingFields, HelperFields, FormFields, lambda_depth, tail_lambda_depth, binding_lambda_depth, helper_lambda_depth, form_lambda_depth}
 use Rattle.records.specs.Views.{Closes, SeesTagged, TailAt}
 use Rattle.records.proofs.Lists.{Listed, listed_bodies, listed_bindings, listed_helpers}
+use Rattle.records.proofs.Marks.{body_placed}
 use Rattle.records.proofs.MarkedLaws.{BodyOf, body_by_mark, HelperOf, helper_by_mark}
 use Rattle.records.proofs.Parts.{past_then, fixed_past}
 use Rattle.records.proofs.Views.{ByteAt, byte_is, byte_length, kind_length, close_mark, close_on, close_step}
@@ -111,13 +115,12 @@ module _ {s : Bytes} (m : mark_width ≤ length s) where
       let fields = close_step xh h f.2 (close_step xw w f.1 located) in
       closed (close_step z b (f.5, omega arith, omega arith) (close_many y (listed_bindings bs f.4 (omega arith) (omega arith)) fields))
 
-  pub quote_ends : {r : ℕ} → Past sexp_part s mark_width r → (e : Sexp) → Ends (family_part a_Body) s r (BQ e)
-  unfolding ascii body_bytes BodyFields
-  quote_ends y e v a = closed (close_step y e v.0 (behind "BQ" _ m refl a))
-
-  pub value_ends : {r : ℕ} → Past sexp_part s mark_width r → (e : Sexp) → Ends (family_part a_Body) s r (BV e)
-  unfolding ascii body_bytes BodyFields
-  value_ends y e v a = closed (close_step y e v.0 (behind "BV" _ m refl a))
+  -- one that holds an S record, a BQ or a BV
+  pub sexp_skips : {r : ℕ} → Past sexp_part s mark_width r → let k = mark_index (take mark_width (drop 0 s)) body_marks in (Some Quoted ≡ body_mark_at k) ⊎ (Some Value ≡ body_mark_at k)
+      → Skips (family_part a_Body) s r
+  unfolding ascii body_bytes BodyFields BodyOf
+  sexp_skips y (inl q) = body_skips y.within (body_placed refl q) (λ e v a. closed (close_step y e v.0 (behind "BQ" _ m refl a)))
+  sexp_skips y (inr q) = body_skips y.within (body_placed refl q) (λ e v a. closed (close_step y e v.0 (behind "BV" _ m refl a)))
 
   module _ {at : ℕ} (x : Past (fixed_part loc_width) s mark_width at) where
     pub call_ends : {c r : ℕ} → Past (many_part (family_part a_Body)) s at c → Past tail_part s c r

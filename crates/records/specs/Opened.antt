@@ -1,7 +1,6 @@
 -- The record that a call is given: the limits, and the refusals before any work. docs/FORMAT.md, 'Calls'.
 -- Assumes nothing.
-use Rattle.std.specs.Prelude.{Bool, true, false, ◌&&◌, ℕ, ◌*◌, leb, length}
-use Rattle.std.proofs.Math.Option.{none, some}
+use Rattle.std.specs.Prelude.{Bool, true, false, ◌&&◌, ℕ, ◌*◌, leb, length, None, Some}
 use Rattle.names.specs.Names.{Bytes}
 use Rattle.names.specs.CallAnswer.{max_counter}
 use Rattle.names.specs.Refusals.{place_at, refusing, placeless}
@@ -22,8 +21,8 @@ pub data Opened (A : Type 0) : Type 0 where
 module _ {A : Type 0} where
   -- 4: a BM in a binding body of an assign
   unfoldable pub no_mod : Whole A → Opened A
-  no_mod (whole a none) = opened a
-  no_mod (whole a (some p)) = closed (refusing 4 (place_at p))
+  no_mod (whole a None) = opened a
+  no_mod (whole a (Some p)) = closed (refusing 4 (place_at p))
   no_mod (unread f p) = closed (refusing (fault_number f) p)
 
   -- a BM may stand anywhere

@@ -1,7 +1,6 @@
 -- Reading: bytes to one record, from left to right, or the first refusal, number and place. docs/FORMAT.md, 'Reading'.
 -- Assumes nothing.
-use Rattle.std.specs.Prelude.{List, [], ◌∷◌, ℕ, zero, suc, ◌-◌, eqb}
-use Rattle.std.proofs.Math.Option.{Option, none, some}
+use Rattle.std.specs.Prelude.{List, [], ◌∷◌, ℕ, zero, suc, ◌-◌, eqb, Option, None, Some}
 use Prim.Native.String.{String}
 use Rattle.names.specs.Names.{Bytes}
 use Rattle.names.specs.Refusals.{place_at}
@@ -92,8 +91,8 @@ binding_zone Assign InMod = InMod
 -- a BM at the innermost mark: noted if it is the first in a binding body of an assign
 unfoldable pub noted : Zone → Option ℕ → ℕ → Option ℕ
 noted Plain first p = first
-noted InBinding none p = some p
-noted InBinding (some q) p = some q
+noted InBinding None p = Some p
+noted InBinding (Some q) p = Some q
 noted InMod first p = first
 
 -- a BM is met
@@ -295,7 +294,7 @@ outermost = record { mark = 0; room = level_limit; lambdas = lambda_limit; zone 
 
 -- nothing is read yet
 abbrev pub from_first : Bytes → Input
-from_first bs = record { offset = 0; rest = bs; first_mod = none }
+from_first bs = record { offset = 0; rest = bs; first_mod = None }
 
 -- a whole input
 unfoldable pub read_whole : {A : Type 0} → Reader A → Bytes → Whole A

@@ -1,6 +1,5 @@
 -- Reading, field by field: what a reader is, how readers are joined, and each plain field. Assumes nothing.
-use Rattle.std.specs.Prelude.{Bool, true, false, ◌&&◌, ◌||◌, not, List, [], ◌∷◌, ◌++◌, ℕ, zero, suc, ◌+◌, ◌-◌, eqb, leb, ltb}
-use Rattle.std.proofs.Math.Option.{Option}
+use Rattle.std.specs.Prelude.{Bool, true, false, ◌&&◌, ◌||◌, not, List, [], ◌∷◌, ◌++◌, ℕ, zero, suc, ◌+◌, ◌-◌, eqb, leb, ltb, Option}
 use Prim.Native.String.{String}
 use Rattle.names.specs.Names.{Bytes, ascii, same, number_of, name_width}
 use Rattle.names.specs.Refusals.{place_at}

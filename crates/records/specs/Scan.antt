@@ -1,18 +1,21 @@
 -- What the reader's code answers: a reading (Read.antt) whose tree is forgotten. `Scan`, `Context` and `Zone` are those of the code.
 -- Assumes nothing.
-use Rattle.std.specs.Prelude.{Bool, true, false, List, [], ◌∷◌, ◌≡◌, ℕ, zero, suc, ◌+◌, ◌-◌, ◌≤◌, length, drop}
-use Rattle.std.proofs.Math.Option.{Option, none, some}
+use Rattle.std.specs.Prelude.{Bool, true, false, List, [], ◌∷◌, ◌≡◌, ℕ, zero, suc, ◌+◌, ◌-◌, ◌≤◌, length, drop, Option, Some, None, Result, Ok, Err, IfOk}
 use Prim.Native.String.{String}
 use Rattle.names.specs.Names.{Bytes, ascii, same}
-use Rattle.names.specs.Refusals.{refusing, no_refusal}
-use Rattle.names.specs.declared.Place.{Place}
+use Rattle.names.specs.Refusals.{refusing}
+use Rattle.names.specs.declared.Refusal.{Refusal}
 use Rattle.records.specs.declared.Scan.{Scan}
 use Rattle.records.specs.declared.Family.{Family}
 use Rattle.records.specs.declared.Family.TheVariants.{Body as a_Body, Binding as a_binding, Helper as a_helper, Form as a_form}
 use Rattle.records.specs.declared.Wanted.{Wanted}
 use Rattle.records.specs.declared.Wanted.TheVariants.{Form as a_whole_form, Helper as a_single_helper, Assign as an_assign}
-use Rattle.records.specs.declared.Opening.{Opening}
-use Rattle.records.specs.declared.Opening.TheVariants.{Accepted, Refused}
+use Rattle.records.specs.declared.SexpMark.{SexpMark}
+use Rattle.records.specs.declared.SexpMark.TheVariants.{Nil, Pair, Integer, Text, Atom}
+use Rattle.records.specs.declared.BodyMark.{BodyMark}
+use Rattle.records.specs.declared.BodyMark.TheVariants.{Let, Quoted, Value, Call, Mod, Lambda}
+use Rattle.records.specs.declared.HelperMark.{HelperMark}
+use Rattle.records.specs.declared.HelperMark.TheVariants.{Constant, Macro, Function, Namespace, Reference}
 use Rattle.records.specs.Limits.{level_limit}
 use Rattle.records.specs.Opened.{Opened, opened, closed, no_mod, any_mod}
 use Rattle.records.specs.Records.{Body, Tail, Binding, Helper, Form}
@@ -34,6 +37,32 @@ body_marks = "BL" ∷ "BQ" ∷ "BV" ∷ "BC" ∷ "BM" ∷ "BF" ∷ []
 
 abbrev pub helper_marks : List String
 helper_marks = "HC" ∷ "HM" ∷ "HD" ∷ "HN" ∷ "HR" ∷ []
+
+-- the mark with that place
+abbrev pub sexp_mark_at : ℕ → Option SexpMark
+sexp_mark_at zero = Some Nil
+sexp_mark_at (suc zero) = Some Pair
+sexp_mark_at (suc (suc zero)) = Some Integer
+sexp_mark_at (suc (suc (suc zero))) = Some Text
+sexp_mark_at (suc (suc (suc (suc zero)))) = Some Atom
+sexp_mark_at (suc (suc (suc (suc (suc k))))) = None
+
+abbrev pub body_mark_at : ℕ → Option BodyMark
+body_mark_at zero = Some Let
+body_mark_at (suc zero) = Some Quoted
+body_mark_at (suc (suc zero)) = Some Value
+body_mark_at (suc (suc (suc zero))) = Some Call
+body_mark_at (suc (suc (suc (suc zero)))) = Some Mod
+body_mark_at (suc (suc (suc (suc (suc zero))))) = Some Lambda
+body_mark_at (suc (suc (suc (suc (suc (suc k)))))) = None
+
+abbrev pub helper_mark_at : ℕ → Option HelperMark
+helper_mark_at zero = Some Constant
+helper_mark_at (suc zero) = Some Macro
+helper_mark_at (suc (suc zero)) = Some Function
+helper_mark_at (suc (suc (suc zero))) = Some Namespace
+helper_mark_at (suc (suc (suc (suc zero)))) = Some Reference
+helper_mark_at (suc (suc (suc (suc (suc k))))) = None
 
 -- a reader, of whatever it reads
 abbrev pub AnyReader : Type 1
@@ -80,51 +109,41 @@ below_lambda x = record { mark = x.mark; room = x.room; lambdas = x.lambdas - 1;
 abbrev pub in_zone_of : Zone → Context → Context
 in_zone_of z x = record { mark = x.mark; room = x.room; lambdas = x.lambdas; zone = z }
 
--- the offset of the first BM, if any, as a number
-unfoldable pub mod_number : Option ℕ → ℕ
-mod_number none = 0
-mod_number (some p) = suc p
-
--- and back
-unfoldable pub mod_offset : ℕ → Option ℕ
-mod_offset zero = none
-mod_offset (suc p) = some p
-
--- a refusal among n bytes stands at their end
-abbrev pub refused_scan : ℕ → ℕ → Place → Scan
-refused_scan n number place = record { at = n; refusal = refusing number place; first = 0 }
-
--- where a reader brings the reading c of the n bytes from the mark on: further on, or to its refusal
-unfoldable pub scan_of : {A : Type 0} → ℕ → ℕ → Scan → Read A → Scan
-scan_of mark n c (done a j) = record { at = j.offset - mark; refusal = c.refusal; first = mod_number j.first_mod }
-scan_of mark n c (refused f p) = refused_scan n (fault_number f) p
+-- where a reader brings a reading of the bytes from the mark on: further on, or to its refusal
+unfoldable pub scan_of : {A : Type 0} → ℕ → Read A → Result Scan Refusal
+scan_of mark (done a j) = Ok (record { at = j.offset - mark; first = j.first_mod })
+scan_of mark (refused f p) = Err (refusing (fault_number f) p)
 
 -- the input that a reading c of the bytes s, from the mark on, has come to
 unfoldable pub input_at : ℕ → Bytes → Scan → Input
-input_at mark s c = record { offset = mark + c.at; rest = drop c.at s; first_mod = mod_offset c.first }
+input_at mark s c = record { offset = mark + c.at; rest = drop c.at s; first_mod = c.first }
 
--- m goes on from the reading c; a refused reading stays as it is
-unfoldable pub goes_on : {A : Type 0} → Reader A → Context → Bytes → Scan → Scan
-goes_on m x s c = elim c.refusal.number [ zero ↦ scan_of x.mark (length s) c (m x (input_at x.mark s c)) | suc n ↦ c ]
+-- m goes on from the reading c
+abbrev pub goes_on : {A : Type 0} → Reader A → Context → Bytes → Scan → Result Scan Refusal
+goes_on m x s c = scan_of x.mark (m x (input_at x.mark s c))
+
+-- a reading of the bytes s that is not refused is within them
+abbrev pub Within : Bytes → Result Scan Refusal → Type 0
+Within s r = IfOk r (λ d. d.at ≤ length s)
 
 -- r is where m comes from the reading c of the bytes s, in the context x
-pub record Comes {A : Type 0} (m : Reader A) (x : Context) (s : Bytes) (c r : Scan) : Type 0 where
+pub record Comes {A : Type 0} (m : Reader A) (x : Context) (s : Bytes) (c : Scan) (r : Result Scan Refusal) : Type 0 where
   pub there : r ≡ goes_on m x s c
-  pub within : r.at ≤ length s
+  pub within : Within s r
 
 -- the same in every context of that mark: a field asks nothing else of it
-pub record Reads {A : Type 0} (m : Reader A) (mark : ℕ) (s : Bytes) (c r : Scan) : Type 0 where
+pub record Reads {A : Type 0} (m : Reader A) (mark : ℕ) (s : Bytes) (c : Scan) (r : Result Scan Refusal) : Type 0 where
   pub anywhere : (x : Context) → x.mark ≡ mark → r ≡ goes_on m x s c
-  pub within : r.at ≤ length s
+  pub within : Within s r
 
 -- the same for every fuel that the levels left do not pass
-pub record Goes (m : ℕ → AnyReader) (x : Context) (s : Bytes) (c r : Scan) : Type 0 where
+pub record Goes (m : ℕ → AnyReader) (x : Context) (s : Bytes) (c : Scan) (r : Result Scan Refusal) : Type 0 where
   pub enough : (fuel : ℕ) → x.room ≤ fuel → Comes (m fuel).1 x s c r
-  pub within : r.at ≤ length s
+  pub within : Within s r
 
 -- a reading that has come to a place, and one that starts
 abbrev pub from_place : ℕ → Scan
-from_place at = record { at = at; refusal = no_refusal; first = 0 }
+from_place at = record { at = at; first = None }
 
 abbrev pub first_scan : Scan
 first_scan = from_place 0
@@ -141,6 +160,6 @@ judged_by true = any_mod
 judged_by false = no_mod
 
 -- the code's answer to an input that is opened or refused
-abbrev pub opening_of : {A : Type 0} → Opened A → Opening
-opening_of (opened a) = Accepted
-opening_of (closed r) = Refused r
+abbrev pub opening_of : {A : Type 0} → Opened A → Result (Unit {0}) Refusal
+opening_of (opened a) = Ok tt
+opening_of (closed r) = Err r

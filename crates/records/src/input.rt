@@ -7,9 +7,9 @@ ghost use Rattle.records.specs.Scan.{Comes, first_scan, wanted_reader, judged_by
 
 use crate::record::{assign, read_record};
 use crate::start::{from_place, outermost};
-use crate::{Family, LEAST_LONGEST, MOST_LONGEST, Opening, Scan, WORK_FACTOR, Wanted};
-use names::MAX_COUNTER;
+use crate::{Family, LEAST_LONGEST, MOST_LONGEST, Scan, WORK_FACTOR, Wanted};
 use names::refusals::{place_at, placeless, refusing};
+use names::{MAX_COUNTER, Refusal};
 
 // Whether F, the length of work memory and the counter are within their limits.
 fn within(f: usize, work: usize, counter: u64) -> bool
@@ -28,7 +28,7 @@ fn within(f: usize, work: usize, counter: u64) -> bool
 }
 
 // Reads a whole input from its first byte.
-fn read_from_first(wanted: Wanted, input: &[u8]) -> Scan
+fn read_from_first(wanted: Wanted, input: &[u8]) -> Result<Scan, Refusal>
     requires { length input.now ≤ most_longest }
     ensures { Comes (wanted_reader wanted).1 outermost input.now first_scan result }
 {
@@ -42,41 +42,56 @@ fn read_from_first(wanted: Wanted, input: &[u8]) -> Scan
 }
 
 // The first of the refusals before any work, or none; 4 is none of them if mods says that a BM may stand anywhere.
-fn open_by(mods: bool, wanted: Wanted, f: usize, work: usize, counter: u64, input: &[u8]) -> Opening
+fn open_by(
+    mods: bool,
+    wanted: Wanted,
+    f: usize,
+    work: usize,
+    counter: u64,
+    input: &[u8],
+) -> Result<(), Refusal>
     ensures { result ≡ opening_of (open_by (judged_by mods) (wanted_reader wanted).1 f work counter input.now) }
 {
     if !within(f, work, counter) {
-        return Opening::Refused(placeless(1));
+        return Err(placeless(1));
     }
     if input.len() > f {
-        return Opening::Refused(placeless(3));
+        return Err(placeless(3));
     }
-    let r = read_from_first(wanted, input);
-    let refusal = r.refusal;
-    if refusal.number != 0 {
-        return Opening::Refused(refusal);
-    }
+    let r = read_from_first(wanted, input)?;
     if r.at < input.len() {
-        return Opening::Refused(refusing(2, place_at(r.at as u64)));
+        return Err(refusing(2, place_at(r.at as u64)));
     }
     if mods {
-        return Opening::Accepted;
+        return Ok(());
     }
-    if r.first != 0 {
-        return Opening::Refused(refusing(4, place_at(r.first as u64 - 1)));
+    match r.first {
+        Some(p) => Err(refusing(4, place_at(p as u64))),
+        None => Ok(()),
     }
-    Opening::Accepted
 }
 
 // The first of the refusals 1, 3 by length, 2 and 3 by reading, or none: a BM may stand anywhere.
-pub fn read_input(wanted: Wanted, f: usize, work: usize, counter: u64, input: &[u8]) -> Opening
+pub fn read_input(
+    wanted: Wanted,
+    f: usize,
+    work: usize,
+    counter: u64,
+    input: &[u8],
+) -> Result<(), Refusal>
     ensures { result ≡ opening_of (read_input (wanted_reader wanted).1 f work counter input.now) }
 {
     open_by(true, wanted, f, work, counter, input)
 }
 
 // The first of the same refusals and 4 after them, or none.
-pub fn open_input(wanted: Wanted, f: usize, work: usize, counter: u64, input: &[u8]) -> Opening
+pub fn open_input(
+    wanted: Wanted,
+    f: usize,
+    work: usize,
+    counter: u64,
+    input: &[u8],
+) -> Result<(), Refusal>
     ensures { result ≡ opening_of (open_input (wanted_reader wanted).1 f work counter input.now) }
 {
     open_by(false, wanted, f, work, counter, input)

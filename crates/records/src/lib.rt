@@ -16,8 +16,6 @@ pub mod sexps;
 pub mod skip;
 pub mod start;
 
-use names::Refusal;
-
 // The bytes of a mark.
 pub const MARK_WIDTH: usize = 2;
 
@@ -54,6 +52,37 @@ pub const MOST_LONGEST: usize = 16384;
 // How many times F work memory holds.
 pub const WORK_FACTOR: usize = 256;
 
+// The marks of the S records.
+#[derive(Clone, Copy)]
+pub enum SexpMark {
+    Nil,
+    Pair,
+    Integer,
+    Text,
+    Atom,
+}
+
+// The marks of the B records.
+#[derive(Clone, Copy)]
+pub enum BodyMark {
+    Let,
+    Quoted,
+    Value,
+    Call,
+    Mod,
+    Lambda,
+}
+
+// The marks of the H records.
+#[derive(Clone, Copy)]
+pub enum HelperMark {
+    Constant,
+    Macro,
+    Function,
+    Namespace,
+    Reference,
+}
+
 // Where a record stands: in no assign's binding body; in one, and in no BM; in a BM.
 #[derive(Clone, Copy)]
 pub enum Zone {
@@ -81,14 +110,12 @@ pub enum Family {
     Form,
 }
 
-// How far a record is read: the offset of the next byte, from the record's mark; the refusal so
-// far; and one more than the offset of the first BM met in a binding body of an assign (0 for none).
-// A refused reading stands at the end of its bytes.
+// How far a record is read: the offset of the next byte, from the record's mark, and the offset of
+// the first BM met in a binding body of an assign.
 #[derive(Clone, Copy)]
 pub struct Scan {
     pub at: usize,
-    pub refusal: Refusal,
-    pub first: usize,
+    pub first: Option<usize>,
 }
 
 // The record that a call wants: a CF, an H record, or one BL of kind 2.
@@ -99,18 +126,12 @@ pub enum Wanted {
     Assign,
 }
 
-// An input is accepted or refused.
+// What a step read and wrote, and the counter that it left.
 #[derive(Clone, Copy)]
-pub enum Opening {
-    Accepted,
-    Refused(Refusal),
-}
-
-// What a step read and wrote, and the counter that it left; or its refusal.
-#[derive(Clone, Copy)]
-pub enum Step {
-    Done(usize, usize, u64),
-    Refused(names::Refusal),
+pub struct Step {
+    pub read: usize,
+    pub written: usize,
+    pub counter: u64,
 }
 
 // The bytes of a name: where they start and end.

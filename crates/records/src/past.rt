@@ -34,8 +34,7 @@ pub fn past_name(s: &[u8], at: usize) -> usize
     requires { at ≤ length s.now }
     ensures { Past name_part s.now at result }
 {
-    let v = name_view(s, at);
-    v.end
+    name_view(s, at).end
 }
 
 // A field that is only copied.
@@ -43,8 +42,7 @@ pub fn past_raw(s: &[u8], at: usize) -> usize
     requires { at ≤ length s.now }
     ensures { Past raw_part s.now at result }
 {
-    let v = counted_view(s, at, RAW_WIDTH);
-    v.end
+    counted_view(s, at, RAW_WIDTH).end
 }
 
 // A byte, with a location behind it from `least` on.

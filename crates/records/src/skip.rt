@@ -9,7 +9,7 @@ use crate::past::{
 };
 use crate::record::{body_mark, helper_mark};
 use crate::sexp::sexp_mark;
-use crate::{Family, LOC_WIDTH, MARK_WIDTH};
+use crate::{BodyMark, Family, HelperMark, LOC_WIDTH, MARK_WIDTH, SexpMark};
 
 // The length of the record that s starts with.
 #[cycle(skipping)]
@@ -27,30 +27,28 @@ pub fn skip(family: Family, s: &[u8]) -> usize
     }
 }
 
-// A B record, by the number of its mark.
+// A B record, by its mark.
 #[cycle(skipping)]
 fn body(s: &[u8]) -> usize
     requires { mark_width ≤ length s.now }
     ensures { Skips (family_part Family.Body) s.now result }
 {
-    let k = body_mark(s);
     let at = past_bytes(s, MARK_WIDTH, LOC_WIDTH);
-    match k {
-        0 => {
+    match body_mark(s) {
+        Some(BodyMark::Let) => {
             let keyword = past_bytes(s, past_bytes(s, MARK_WIDTH, 1), LOC_WIDTH);
             let counted = past_hint(s, past_keyword(s, keyword));
             past_record(Family::Body, s, many(Family::Binding, s, counted))
         }
-        1 => past_sexp(s, MARK_WIDTH),
-        2 => past_sexp(s, MARK_WIDTH),
-        3 => tail(s, many(Family::Body, s, at)),
-        4 => past_record(Family::Form, s, at),
-        5 => {
+        Some(BodyMark::Quoted) | Some(BodyMark::Value) => past_sexp(s, MARK_WIDTH),
+        Some(BodyMark::Call) => tail(s, many(Family::Body, s, at)),
+        Some(BodyMark::Mod) => past_record(Family::Form, s, at),
+        Some(BodyMark::Lambda) => {
             let captures = past_sexp(s, past_keyword(s, at));
             let args = past_record(Family::Body, s, captures);
             past_record(Family::Body, s, past_sexp(s, args))
         }
-        _ => s.len(),
+        None => s.len(),
     }
 }
 
@@ -64,24 +62,23 @@ fn binding(s: &[u8]) -> usize
     past_record(Family::Body, s, past_pattern(s, pattern))
 }
 
-// An H record, by the number of its mark.
+// An H record, by its mark.
 #[cycle(skipping)]
 fn helper(s: &[u8]) -> usize
     requires { mark_width ≤ length s.now }
     ensures { Skips (family_part Family.Helper) s.now result }
 {
-    let k = helper_mark(s);
     let at = past_bytes(s, MARK_WIDTH, LOC_WIDTH);
-    match k {
-        0 => past_record(Family::Body, s, past_named(s, at)),
-        1 => past_record(Family::Form, s, past_sexp(s, past_named(s, at))),
-        2 => {
+    match helper_mark(s) {
+        Some(HelperMark::Constant) => past_record(Family::Body, s, past_named(s, at)),
+        Some(HelperMark::Macro) => { past_record(Family::Form, s, past_sexp(s, past_named(s, at))) }
+        Some(HelperMark::Function) => {
             let args = past_named(s, past_bytes(s, at, 1));
             past_record(Family::Body, s, past_sexp(s, args))
         }
-        3 => many(Family::Helper, s, past_named(s, at)),
-        4 => past_named(s, at),
-        _ => s.len(),
+        Some(HelperMark::Namespace) => many(Family::Helper, s, past_named(s, at)),
+        Some(HelperMark::Reference) => past_named(s, at),
+        None => s.len(),
     }
 }
 
@@ -132,26 +129,16 @@ pub fn skip_sexp(s: &[u8]) -> usize
     ensures { Skips fields_part s.now result }
 {
     let head = past_head(s);
-    let k = sexp_mark(s);
-    match k {
-        0 => head,
-        1 => {
+    match sexp_mark(s) {
+        Some(SexpMark::Nil) => head,
+        Some(SexpMark::Pair) => {
             let tail = head + skip_sexp(&s[head..]);
             tail + skip_sexp(&s[tail..])
         }
-        2 => {
-            let v = integer_view(s, head);
-            v.end
-        }
-        3 => {
-            let v = name_view(s, past_bytes(s, head, 1));
-            v.end
-        }
-        4 => {
-            let v = name_view(s, head);
-            v.end
-        }
-        _ => s.len(),
+        Some(SexpMark::Integer) => integer_view(s, head).end,
+        Some(SexpMark::Text) => name_view(s, past_bytes(s, head, 1)).end,
+        Some(SexpMark::Atom) => name_view(s, head).end,
+        None => s.len(),
     }
 }
 
@@ -179,10 +166,8 @@ pub fn after(family: Family, s: &[u8], at: usize, n: u8) -> usize
     ensures { Past (list_part (family_part family) n) s.now at result }
 {
     let mut end = at;
-    let mut i = 0;
-    while i < n {
+    for _ in 0..n {
         end = past_record(family, s, end);
-        i += 1;
     }
     end
 }

@@ -4,7 +4,6 @@ ghost use Rattle.records.specs.Read.{outermost};
 ghost use Rattle.records.specs.Scan.{from_place};
 
 use crate::{Context, LAMBDA_LIMIT, LEVEL_LIMIT, Scan, Zone};
-use names::refusals::no_refusal;
 
 // The context of a record that stands in no other.
 pub fn outermost() -> Context
@@ -22,9 +21,5 @@ pub fn outermost() -> Context
 pub fn from_place(at: usize) -> Scan
     ensures { result ≡ from_place at }
 {
-    Scan {
-        at,
-        refusal: no_refusal(),
-        first: 0,
-    }
+    Scan { at, first: None }
 }

@@ -6,14 +6,14 @@ use std::env::{Env, FillError};
 // The most bytes of an argument that is read whole.
 pub const ARGUMENT: usize = 4096;
 
-// Puts an argument at the front of a buffer, and answers how many bytes it has: 0 where there is no such
-// argument, or where the buffer is too short for it.
-pub fn argument(rt: &impl Env, i: usize, buf: &mut [u8]) -> usize
-    ensures { result ≤ length buf.new }
+// An argument, put at the front of a buffer: no bytes where there is no such argument, or where the
+// buffer is too short for it.
+pub fn argument<'a>(rt: &impl Env, i: usize, buf: &'a mut [u8]) -> &'a [u8]
+    ensures { length result.now ≤ length buf.old }
 {
     match rt.arg(i, buf) {
-        Ok(n) => n,
-        Err(_) => 0,
+        Ok(n) => &buf[..n],
+        Err(_) => b"",
     }
 }
 

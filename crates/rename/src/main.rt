@@ -21,38 +21,37 @@ enum Command {
     Check,
     OfFile(Asked),
     Renaming(Call),
-    Unknown,
 }
 
 // The command of a word.
-fn asked_by(word: &[u8]) -> Command {
+fn asked_by(word: &[u8]) -> Option<Command> {
     if same(word, b"name") {
-        return Command::Name;
+        return Some(Command::Name);
     }
     if same(word, b"check") {
-        return Command::Check;
+        return Some(Command::Check);
     }
     if same(word, b"order") {
-        return Command::OfFile(Asked::Order);
+        return Some(Command::OfFile(Asked::Order));
     }
     if same(word, b"page") {
-        return Command::OfFile(Asked::Page);
+        return Some(Command::OfFile(Asked::Page));
     }
     if same(word, b"whole") {
-        return Command::Renaming(Call::Whole);
+        return Some(Command::Renaming(Call::Whole));
     }
     if same(word, b"children") {
-        return Command::Renaming(Call::Children);
+        return Some(Command::Renaming(Call::Children));
     }
     if same(word, b"helper") {
-        return Command::Renaming(Call::Helper);
+        return Some(Command::Renaming(Call::Helper));
     }
-    Command::Unknown
+    None
 }
 
 // Says which commands there are.
 fn unknown(err: &impl Print, word: &[u8]) -> io::Result<()> {
-    if word.len() > 0 {
+    if !word.is_empty() {
         commands::say::wrong(err, b"command", b"one of those below", word)?;
     }
     usage::print(err)
@@ -61,13 +60,13 @@ fn unknown(err: &impl Print, word: &[u8]) -> io::Result<()> {
 // Runs the command that the first argument names.
 fn main(rt: HostRuntime) -> io::Result<()> {
     let err = rt.stderr();
-    let mut word = [0u8; ARGUMENT];
-    let n = argument(&rt, 1, &mut word);
-    match asked_by(&word[..n]) {
-        Command::Name => arguments::name(&rt, &err),
-        Command::Check => arguments::check(&rt, &err),
-        Command::OfFile(asked) => arguments::of_file(&rt, &err, asked),
-        Command::Renaming(call) => arguments::renaming(&rt, &err, call),
-        Command::Unknown => unknown(&err, &word[..n]),
+    let mut buf = [0u8; ARGUMENT];
+    let word = argument(&rt, 1, &mut buf);
+    match asked_by(word) {
+        Some(Command::Name) => arguments::name(&rt, &err),
+        Some(Command::Check) => arguments::check(&rt, &err),
+        Some(Command::OfFile(asked)) => arguments::of_file(&rt, &err, asked),
+        Some(Command::Renaming(call)) => arguments::renaming(&rt, &err, call),
+        None => unknown(&err, word),
     }
 }

@@ -27,19 +27,16 @@ pub fn read(
     work: &mut [u8; WORK],
 ) -> io::Result<()> {
     let mut input = [0u8; MOST_READ];
-    let c = file::read(rt, err, path, &mut input);
-    let len = c.len;
-    if c.read {
-        rename(rt, err, call, &input[..len], f, counter, work)?;
+    match file::read(rt, err, path, &mut input) {
+        Some(s) => rename(rt, err, call, s, f, counter, work),
+        None => Ok(()),
     }
-    Ok(())
 }
 
 // Writes bytes to OUT, and answers whether they were written.
 fn write(rt: &(impl Env + Files), err: &impl Print, bytes: &[u8]) -> io::Result<bool> {
     let mut out = [0u8; ARGUMENT];
-    let n = argument(rt, 5, &mut out);
-    file::write(rt, err, &out[..n], bytes)
+    file::write(rt, err, argument(rt, 5, &mut out), bytes)
 }
 
 // Renames a record, writes it to OUT, and prints its length and the new counter, or the refusal.

@@ -26,12 +26,12 @@ pub fn run(
     f: usize,
     counter: u64,
 ) -> io::Result<()> {
-    let mut path = [0u8; ARGUMENT];
-    let n = argument(rt, 2, &mut path);
+    let mut buf = [0u8; ARGUMENT];
+    let path = argument(rt, 2, &mut buf);
     let mut work = [0u8; WORK];
     match asked {
-        Asked::Order => order(rt, err, &path[..n], f, &mut work),
-        Asked::Page => page(rt, err, &path[..n], f, &mut work),
-        Asked::Renaming(call) => renaming::read(rt, err, call, &path[..n], f, counter, &mut work),
+        Asked::Order => order(rt, err, path, f, &mut work),
+        Asked::Page => page(rt, err, path, f, &mut work),
+        Asked::Renaming(call) => renaming::read(rt, err, call, path, f, counter, &mut work),
     }
 }

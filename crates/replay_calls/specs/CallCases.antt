@@ -1,6 +1,6 @@
 -- When the calls Whole form, Children only and Single helper answer a case as they must. Assumes nothing.
 use Rattle.std.specs.Prelude.{◌≡◌, ℕ, zero, suc, ◌≤◌, length, take, drop}
-use Rattle.names.specs.CallAnswer.{Result, written}
+use Rattle.names.specs.CallAnswer.{CallResult, written}
 use Rattle.names.specs.Names.{Bytes}
 use Rattle.names.specs.Refusals.{place_at, refusing}
 use Rattle.names.specs.declared.Answer.{Answer}
@@ -9,13 +9,13 @@ use Rattle.replay_calls.specs.declared.calls.Case.{Case}
 use Rattle.walk.specs.Calls.{whole_call, children_call, helper_call}
 
 -- the call of a number: 0 Whole form, 1 Children only, else Single helper
-abbrev pub numbered_call : ℕ → ℕ → ℕ → ℕ → Bytes → Bytes → Result
+abbrev pub numbered_call : ℕ → ℕ → ℕ → ℕ → Bytes → Bytes → CallResult
 numbered_call zero = whole_call
 numbered_call (suc zero) = children_call
 numbered_call (suc (suc n)) = helper_call
 
 -- what the call of a case answers to an input, with this work memory and this buffer
-abbrev pub answer_to : Case → Bytes → Bytes → Bytes → Result
+abbrev pub answer_to : Case → Bytes → Bytes → Bytes → CallResult
 answer_to c work input buffer = numbered_call c.call c.f (length work) c.counter input buffer
 
 -- the answer that a case must get, with so many bytes written
@@ -23,7 +23,7 @@ abbrev pub due_answer : Case → ℕ → Answer
 due_answer c len = record { refusal = c.refusal; counter = c.after; rounds = 0; len = len }
 
 -- and the result: the wanted bytes at the front of a buffer of n bytes, and behind them what it was filled with
-abbrev pub due_result : Case → Bytes → ℕ → Result
+abbrev pub due_result : Case → Bytes → ℕ → CallResult
 due_result c wanted n = (due_answer c (length wanted), written wanted (filling n))
 
 -- the call's answer and the result buffer of n bytes are those of the case

@@ -1,6 +1,6 @@
 -- When the call Order answers a case as it must. Assumes nothing.
 use Rattle.std.specs.Prelude.{◌≢◌, ◌≡◌, ℕ, ◌≤◌, ◌<◌, length, get_or, take, drop}
-use Rattle.names.specs.CallAnswer.{Result}
+use Rattle.names.specs.CallAnswer.{CallResult}
 use Rattle.names.specs.Names.{Bytes}
 use Rattle.names.specs.Refusals.{place_at, refusing}
 use Rattle.ordering.specs.OrderCall.{order_call}
@@ -26,7 +26,7 @@ pub record BytesAgree (number : ℕ) (got wanted : Bytes) : Type 0 where
   pub exact : number ≢ 5 → got ≡ wanted
 
 -- a result is that of a case: its refusal, counter and rounds, the bytes wanted, and behind them what the buffer was filled with
-pub record OrderAgrees (c : Case) (wanted : Bytes) (r : Result) : Type 0 where
+pub record OrderAgrees (c : Case) (wanted : Bytes) (r : CallResult) : Type 0 where
   pub refusal : r.0.refusal ≡ c.refusal
   pub counter : r.0.counter ≡ c.counter
   pub rounds : r.0.rounds ≡ c.rounds
@@ -35,7 +35,7 @@ pub record OrderAgrees (c : Case) (wanted : Bytes) (r : Result) : Type 0 where
   pub rest : drop r.0.len r.1 ≡ filling (length (drop r.0.len r.1))
 
 -- what the call answers to a case, in a filled buffer of so many bytes
-abbrev pub case_result : Case → ℕ → Bytes → ℕ → Result
+abbrev pub case_result : Case → ℕ → Bytes → ℕ → CallResult
 case_result c work input n = order_call c.f work c.counter input (filling n)
 
 -- the head of a case: F, the counter, the length of the result buffer, the number, the place and the rounds, 2, 8, 1, 1, 4 and 1 bytes

@@ -1,6 +1,6 @@
 -- When the call Page answers a case as it must. Assumes nothing.
 use Rattle.std.specs.Prelude.{◌≡◌, ℕ, ◌≤◌, length, take, drop}
-use Rattle.names.specs.CallAnswer.{Result}
+use Rattle.names.specs.CallAnswer.{CallResult}
 use Rattle.names.specs.Names.{Bytes}
 use Rattle.names.specs.Refusals.{place_at, refusing}
 use Rattle.outline.specs.Page.{page_call}
@@ -8,7 +8,7 @@ use Rattle.replays.specs.Judging.{filling, head_field}
 use Rattle.replay_pages.specs.declared.page.Case.{Case}
 
 -- a result is that of a case: its refusal, no counter and no rounds, the bytes wanted, and behind them what the buffer was filled with
-pub record PageAgrees (c : Case) (wanted : Bytes) (r : Result) : Type 0 where
+pub record PageAgrees (c : Case) (wanted : Bytes) (r : CallResult) : Type 0 where
   pub refusal : r.0.refusal ≡ c.refusal
   pub counter : r.0.counter ≡ 0
   pub rounds : r.0.rounds ≡ 0
@@ -17,7 +17,7 @@ pub record PageAgrees (c : Case) (wanted : Bytes) (r : Result) : Type 0 where
   pub rest : drop r.0.len r.1 ≡ filling (length (drop r.0.len r.1))
 
 -- what the call answers to a case, in a filled buffer of so many bytes
-abbrev pub case_result : Case → ℕ → Bytes → ℕ → Result
+abbrev pub case_result : Case → ℕ → Bytes → ℕ → CallResult
 case_result c work input n = page_call c.f work input (filling n)
 
 -- the head of a case: F, the lengths of work memory and of the result buffer, the number and the place, 2, 4, 4, 1 and 4 bytes

@@ -1,9 +1,8 @@
 -- When the reader answers a case as it must. Assumes nothing.
-use Rattle.std.specs.Prelude.{Bool, true, false, ◌&&◌, ◌≡◌, ℕ, zero, suc, ◌*◌, eqb}
+use Rattle.std.specs.Prelude.{Bool, true, false, ◌&&◌, ◌≡◌, ℕ, zero, suc, ◌*◌, eqb, Result, Ok, Err}
 use Rattle.names.specs.Names.{Bytes}
 use Rattle.names.specs.Refusals.{place_at, refusing}
-use Rattle.records.specs.declared.Opening.{Opening}
-use Rattle.records.specs.declared.Opening.TheVariants.{Accepted, Refused}
+use Rattle.names.specs.declared.Refusal.{Refusal}
 use Rattle.records.specs.declared.Wanted.{Wanted}
 use Rattle.records.specs.declared.Wanted.TheVariants.{Form, Helper, Assign}
 use Rattle.records.specs.Limits.{most_longest, work_factor}
@@ -18,15 +17,15 @@ wanted_of (suc zero) = Helper
 wanted_of (suc (suc n)) = Assign
 
 -- what the reader answers to a case: kind, F and input, with work memory for every F and the counter 0
-abbrev pub reading : ℕ → ℕ → Bytes → Opening
+abbrev pub reading : ℕ → ℕ → Bytes → Result (Unit {0}) Refusal
 reading kind f input = opening_of (open_input (wanted_reader (wanted_of kind)).1 f (work_factor * most_longest) 0 input)
 
 -- the answer that a number and a place tell: accepted is 0 at 0
-abbrev pub told_if : Bool → ℕ → ℕ → Opening
-told_if true number place = Accepted
-told_if false number place = Refused (refusing number (place_at place))
+abbrev pub told_if : Bool → ℕ → ℕ → Result (Unit {0}) Refusal
+told_if true number place = Ok tt
+told_if false number place = Err (refusing number (place_at place))
 
-abbrev pub told : ℕ → ℕ → Opening
+abbrev pub told : ℕ → ℕ → Result (Unit {0}) Refusal
 told number place = told_if (eqb number 0 && eqb place 0) number place
 
 -- A case agrees: its head is kind, number, F and place, 1, 1, 2 and 2 bytes.

@@ -3,8 +3,9 @@ ghost use Rattle.std.specs.Prelude.{◌≡◌};
 ghost use Rattle.replays.specs.Judging.{Decides};
 ghost use Rattle.replay_reads.specs.Reading.{wanted_of, reading, told};
 
+use names::Refusal;
 use records::input::open_input;
-use records::{MOST_LONGEST, Opening, WORK_FACTOR, Wanted};
+use records::{MOST_LONGEST, WORK_FACTOR, Wanted};
 
 // The record that a case's kind asks for.
 fn wanted(kind: u8) -> Wanted
@@ -18,12 +19,12 @@ fn wanted(kind: u8) -> Wanted
 }
 
 // Whether an answer is the one that a number (0 accepted) and a place tell.
-fn tells(opening: Opening, number: u32, place: u64) -> bool
+fn tells(opening: Result<(), Refusal>, number: u32, place: u64) -> bool
     ensures { Decides result (opening ≡ told number place) }
 {
     match opening {
-        Opening::Accepted => number == 0 && place == 0,
-        Opening::Refused(r) => {
+        Ok(()) => number == 0 && place == 0,
+        Err(r) => {
             if number == 0 && place == 0 {
                 return false;
             }

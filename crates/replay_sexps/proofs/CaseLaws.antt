@@ -19,8 +19,7 @@ use Rattle.records.specs.Opened.{Opened, opened, closed, open_input}
 use Rattle.records.specs.Records.{Loc, Sexp, Body, BL, BQ, BV, BC, BM, BF, []ʰ, ◌∷ʰ◌, Form, CF, sexp_bytes, body_bytes, helpers_bytes, helpers_count, form_bytes, record_bytes}
 use Rattle.records.specs.Scan.{mark_index, body_marks, opening_of, wanted_reader}
 use Rattle.records.specs.Valid.{AreBytes, SexpFields, cons_depth, BodyFields, FormFields, ValidForm}
-use Rattle.records.specs.declared.Opening.{Opening}
-use Rattle.records.specs.declared.Opening.TheVariants.{Accepted}
+use Rattle.std.specs.Prelude.{Ok}
 use Rattle.records.specs.declared.Wanted.TheVariants.{Form as a_whole_form}
 use Rattle.records.proofs.Accepted.{form_format, opened_valid}
 use Rattle.records.proofs.Opened.{OpenedFrom, start}
@@ -31,17 +30,17 @@ use Rattle.records.proofs.Views.{first_of, rest_of}
 use Rattle.walk.specs.Arena.{MapAt}
 use Rattle.walk.specs.DrawnMaps.{Roomy, InventsSexp}
 use Rattle.walk.specs.declared.Growth.{Growth}
-use Rattle.walk.specs.declared.Invented.TheVariants.{Drawn, Refused}
 use Rattle.walk.proofs.MapLaws.{no_map}
 use Rattle.replay_sexps.specs.Cases.{Taken, FormIn, SexpsIn, Ready, Holds, Renamed, TellsDrawn, AsTold, CaseForm}
 use Rattle.replay_sexps.specs.declared.sexps.Case.{Case}
+use Rattle.std.specs.declared.result.Result.TheVariants.{Ok, Err}
 
 -- an input that is accepted is a form
-pub taken : (F work c : ℕ) (input : Bytes) {r : Opening} → AreBytes input → r ≡ opening_of (open_input (wanted_reader a_whole_form).1 F work c input) → r ≡ Accepted
+pub taken : (F work c : ℕ) (input : Bytes) → AreBytes input → Ok tt ≡ opening_of (open_input (wanted_reader a_whole_form).1 F work c input)
     → Taken input c × ((f : Form) × ValidForm f × (input ≡ form_bytes f))
-taken F work c input ok e is = go (open_input (wanted_reader a_whole_form).1 F work c input) refl (sym is ∙ e)
+taken F work c input ok e = go (open_input (wanted_reader a_whole_form).1 F work c input) refl e
   where
-    go : (o : Opened Form) → open_input (wanted_reader a_whole_form).1 F work c input ≡ o → Accepted ≡ opening_of o
+    go : (o : Opened Form) → open_input (wanted_reader a_whole_form).1 F work c input ≡ o → Ok tt ≡ opening_of o
         → Taken input c × ((f : Form) × ValidForm f × (input ≡ form_bytes f))
     go (opened f) q z =
         let u = opened_valid form_format F work c input f ok q in
@@ -85,10 +84,10 @@ bare {input} {v} see z (CF l r a []ʰ b) h =
 bare {input} {v} see z (CF l r a (x ∷ʰ hs) b) h = let w = see.sees l r a (x ∷ʰ hs) b h.valid h.there in absurd (omega (arith, w.count))
 
 -- a body that is a BV
-pub two : {input : Bytes} {a b q k : ℕ} {f : Form} → Bare input a b f → k ≡ mark_index (take 2 (drop 0 (part input b (length input - b)))) body_marks → k ≡ 2
+pub two : {input : Bytes} {a b q : ℕ} {f : Form} → Bare input a b f → 2 ≡ mark_index (take 2 (drop 0 (part input b (length input - b)))) body_marks
     → SeesValue (part input b (length input - b)) q → (p : Sexp) × (t : Sexp) × CaseForm f p t × SexpsIn input a (b + q) p t
 unfolding body_bytes BodyFields ascii mark_index same
-two {input} {a} {b} {q} {k} {f} w e i see = go w.body refl w.body_fields w.body_there
+two {input} {a} {b} {q} {f} w e see = go w.body refl w.body_fields w.body_there
   where
     s : Bytes
     s = part input b (length input - b)
@@ -98,7 +97,7 @@ two {input} {a} {b} {q} {k} {f} w e i see = go w.body refl w.body_fields w.body_
 
     -- the place of the body's mark
     marked : (n : String) (fs : List Bytes) → length (ascii n) ≡ 2 → At input b (record_bytes n fs) → 2 ≡ mark_index (ascii n) body_marks
-    marked n fs l z = sym i ∙ e ∙ ap (λ (x : Bytes). mark_index x body_marks) (mark_of n fs l (into z))
+    marked n fs l z = e ∙ ap (λ (x : Bytes). mark_index x body_marks) (mark_of n fs l (into z))
 
     go : (x : Body) → w.body ≡ x → BodyFields x → At input b (body_bytes x) → (p : Sexp) × (t : Sexp) × CaseForm f p t × SexpsIn input a (b + q) p t
     go (BL m l n h bs x) y v z = absurd (omega (arith, marked "BL" _ refl z))
@@ -137,7 +136,7 @@ module _ {input mem : Bytes} {a b : ℕ} {p t : Sexp} (c : Case) (k : Taken inpu
   roomy = record { fields = h.pattern_fields; there = in_memory h.pattern; fits = omega (arith, h.pattern.fits); counts = omega (arith, h.pattern.fits, k.short, k.counts) }
 
   -- the map that it leaves
-  pub ready : {new : Bytes} {g : Growth} → InventsSexp mem new a 0 c.counter (Drawn g) → (m : NameMap) × Ready new (length input) b g.len c.room t m
+  pub ready : {new : Bytes} {g : Growth} → InventsSexp mem new a 0 c.counter (Ok g) → (m : NameMap) × Ready new (length input) b g.len c.room t m
   ready {g = g} i =
       let d = i p roomy [] no_map in
       let within = h.pattern.fits in
@@ -153,7 +152,7 @@ module _ {input mem : Bytes} {a b : ℕ} {p t : Sexp} (c : Case) (k : Taken inpu
       )
 
   -- a case tells what is drawn and then substituted
-  pub tells_drawn : (map wanted : Bytes) {new : Bytes} {g : Growth} → InventsSexp mem new a 0 c.counter (Drawn g) → c.invented ≡ 0
+  pub tells_drawn : (map wanted : Bytes) {new : Bytes} {g : Growth} → InventsSexp mem new a 0 c.counter (Ok g) → c.invented ≡ 0
       → g.counter ≡ c.after → g.len ≡ length map → Holds new input (length input) map → Renamed c new (length input) b g.len wanted → AsTold c map wanted p t
   unfolding ready
   tells_drawn map wanted i z e l held r =
@@ -162,7 +161,7 @@ module _ {input mem : Bytes} {a b : ℕ} {p t : Sexp} (c : Case) (k : Taken inpu
       subst (TellsDrawn c map wanted t) (sym (d.draws.runs 0)) (z, e, same_map map d.draws.map_at l held.end, r t w.0 w.1)
 
   -- a case tells that drawing is refused
-  pub tells_refused : (map wanted : Bytes) {new : Bytes} {r : Refusal} → InventsSexp mem new a 0 c.counter (Refused r) → r ≡ placeless c.invented
+  pub tells_refused : (map wanted : Bytes) {new : Bytes} {r : Refusal} → InventsSexp mem new a 0 c.counter (Err r) → r ≡ placeless c.invented
       → AsTold c map wanted p t
   tells_refused map wanted i e =
       let d = i p roomy [] no_map in

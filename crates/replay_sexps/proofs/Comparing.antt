@@ -12,7 +12,6 @@ use Rattle.names.specs.Segments.{At}
 use Rattle.records.specs.Records.{Sexp, sexp_bytes}
 use Rattle.records.specs.StepAnswer.{Outcome, Gives, gave, refused}
 use Rattle.records.specs.declared.Step.{Step}
-use Rattle.records.specs.declared.Step.TheVariants.{Done, Refused}
 use Rattle.replays.proofs.Deciding.{decides_as, decides_same}
 use Rattle.replays.specs.Judging.{Decides, filling}
 use Rattle.replay_sexps.specs.Cases.{due_step, numbered_rule, Tells}
@@ -21,6 +20,10 @@ use Rattle.walk.specs.DrawnMaps.{growth}
 use Rattle.walk.specs.RenameInCons.{rename_atom, rename_in_cons, rename_in_qq}
 use Rattle.walk.specs.declared.Growth.{Growth}
 use Rattle.walk.specs.declared.Task.{Task}
+use Rattle.std.specs.declared.result.Result.{Result}
+use Rattle.std.specs.declared.result.Result.TheVariants.{Err}
+use Rattle.records.specs.StepAnswer.{step_of}
+use Rattle.records.proofs.StepAnswers.{step_same}
 
 -- a test of the bytes at a place
 pub decides_at : {t : Bool} (xs : Bytes) (p : ℕ) (bs : Bytes) → p ≤ length xs → t ≡ same (take (length bs) (drop p xs)) bs → Decides t (At xs p bs)
@@ -49,28 +52,28 @@ same_growth len c e {g} p q r = go
     go = rw (p, q, r)
 
 -- the step of a case, by its number
-module _ (read wrote c : ℕ) {step : Step} where
-  pub due_done : (n : ℕ) {r w k : ℕ} → step ≡ Done r w k → n ≡ 0 → r ≡ read → w ≡ wrote → k ≡ c → step ≡ due_step n read wrote c
+module _ (read wrote c : ℕ) {step : Result Step Refusal} where
+  pub due_done : (n : ℕ) {r w k : ℕ} → step ≡ step_of r w k → n ≡ 0 → r ≡ read → w ≡ wrote → k ≡ c → step ≡ due_step n read wrote c
   due_done n s z p q e = rw z (s ∙ rw (p, q, e))
 
-  pub due_refused : (n : ℕ) {r : Refusal} → step ≡ Refused r → (n ≡ 0 → ⊥) → r ≡ placeless n → step ≡ due_step n read wrote c
+  pub due_refused : (n : ℕ) {r : Refusal} → step ≡ Err r → (n ≡ 0 → ⊥) → r ≡ placeless n → step ≡ due_step n read wrote c
   due_refused zero s z e = absurd (z refl)
-  due_refused (suc n) s z e = s ∙ ap Refused e
+  due_refused (suc n) s z e = s ∙ ap Err e
 
   -- what a step that is that of a case tells
-  pub done_number : (n : ℕ) {r w k : ℕ} → step ≡ Done r w k → step ≡ due_step n read wrote c → n ≡ 0
+  pub done_number : (n : ℕ) {r w k : ℕ} → step ≡ step_of r w k → step ≡ due_step n read wrote c → n ≡ 0
   done_number zero s d = refl
   done_number (suc n) s d = let z : ◌≡◌ {A = ℕ} 0 1 = cc in absurd (omega arith)
 
-  pub done_parts : (n : ℕ) {r w k : ℕ} → step ≡ Done r w k → step ≡ due_step n read wrote c → (r ≡ read) × (w ≡ wrote) × (k ≡ c)
-  done_parts zero s d = (cc, cc, cc)
+  pub done_parts : (n : ℕ) {r w k : ℕ} → step ≡ step_of r w k → step ≡ due_step n read wrote c → (r ≡ read) × (w ≡ wrote) × (k ≡ c)
+  done_parts zero s d = step_same (sym s ∙ d)
   done_parts (suc n) s d = let z : ◌≡◌ {A = ℕ} 0 1 = cc in absurd (omega arith)
 
-  pub refused_number : (n : ℕ) {r : Refusal} → step ≡ Refused r → step ≡ due_step n read wrote c → n ≡ 0 → ⊥
+  pub refused_number : (n : ℕ) {r : Refusal} → step ≡ Err r → step ≡ due_step n read wrote c → n ≡ 0 → ⊥
   refused_number zero s d z = let y : ◌≡◌ {A = ℕ} 0 1 = cc in omega arith
   refused_number (suc n) s d z = omega arith
 
-  pub refused_is : (n : ℕ) {r : Refusal} → step ≡ Refused r → step ≡ due_step n read wrote c → r ≡ placeless n
+  pub refused_is : (n : ℕ) {r : Refusal} → step ≡ Err r → step ≡ due_step n read wrote c → r ≡ placeless n
   refused_is zero s d = let z : ◌≡◌ {A = ℕ} 0 1 = cc in absurd (omega arith)
   refused_is (suc n) s d = cc
 
@@ -79,7 +82,7 @@ pub decides_other : {t : Bool} {a b k : Refusal} → b ≡ k → Decides t (a �
 decides_other e d = rw e at d
 
 -- the rule of a number
-module _ (k : ℕ) {old new : Bytes} {t : Task} {r : Step} where
+module _ (k : ℕ) {old new : Bytes} {t : Task} {r : Result Step Refusal} where
   pub rule_zero : k ≡ 0 → Substitutes (rename_in_cons false) old new t r → Substitutes (numbered_rule k) old new t r
   rule_zero q h = rw q h
 
@@ -89,7 +92,7 @@ module _ (k : ℕ) {old new : Bytes} {t : Task} {r : Step} where
   pub rule_two : k ≡ 2 → Substitutes (rename_in_qq true) old new t r → Substitutes (numbered_rule k) old new t r
   rule_two q h = rw q h
 
-pub rule_more : (k : ℕ) {old new : Bytes} {t : Task} {r : Step} → (k ≡ 0 → ⊥) → (k ≡ 1 → ⊥) → (k ≡ 2 → ⊥) → Substitutes rename_atom old new t r
+pub rule_more : (k : ℕ) {old new : Bytes} {t : Task} {r : Result Step Refusal} → (k ≡ 0 → ⊥) → (k ≡ 1 → ⊥) → (k ≡ 2 → ⊥) → Substitutes rename_atom old new t r
     → Substitutes (numbered_rule k) old new t r
 rule_more zero a b c h = absurd (a refl)
 rule_more (suc zero) a b c h = absurd (b refl)
@@ -97,7 +100,7 @@ rule_more (suc (suc zero)) a b c h = absurd (c refl)
 rule_more (suc (suc (suc k))) a b c h = h
 
 -- a step that is that of a case, with the wanted bytes where its result goes: the case tells the outcome
-pub told : (number read after n : ℕ) (wanted mem : Bytes) {k : ℕ} {o : Outcome Sexp} {step : Step} → Gives sexp_bytes mem n k o step
+pub told : (number read after n : ℕ) (wanted mem : Bytes) {k : ℕ} {o : Outcome Sexp} {step : Result Step Refusal} → Gives sexp_bytes mem n k o step
     → step ≡ due_step number read (length wanted) after → take (length wanted) (drop n mem) ≡ wanted → Tells number after wanted o
 told number read after n wanted mem (gave u c e s at) d w =
     let p = done_parts read (length wanted) after number s d in

@@ -10,7 +10,6 @@ use Rattle.records.specs.Records.{Loc, Sexp, BV, []ʰ, Form, CF, sexp_bytes, for
 use Rattle.records.specs.StepAnswer.{Outcome, gives, refuses}
 use Rattle.records.specs.Valid.{SexpFields, cons_depth, ValidSexp, ValidForm}
 use Rattle.records.specs.declared.Step.{Step}
-use Rattle.records.specs.declared.Step.TheVariants.{Done, Refused}
 use Rattle.replays.specs.Judging.{filling}
 use Rattle.replay_sexps.specs.declared.sexps.Case.{Case}
 use Rattle.walk.specs.Arena.{MapAt, fitting, outcome}
@@ -18,6 +17,10 @@ use Rattle.walk.specs.DrawnMaps.{growth}
 use Rattle.walk.specs.Invent.{invent_new_names_sexp}
 use Rattle.walk.specs.RenameInCons.{rename_atom, rename_in_cons, rename_in_qq}
 use Rattle.walk.specs.declared.Growth.{Growth}
+use Rattle.std.specs.declared.result.Result.{Result}
+use Rattle.names.specs.declared.Refusal.{Refusal}
+use Rattle.std.specs.declared.result.Result.TheVariants.{Err}
+use Rattle.records.specs.StepAnswer.{step_of}
 
 -- an input and a counter that a call takes
 pub record Taken (input : Bytes) (c : ℕ) : Type 0 where
@@ -53,9 +56,9 @@ pub record Holds (mem input : Bytes) (from : ℕ) (map : Bytes) : Type 0 where
   pub end : At mem (length mem - length map) map
 
 -- the step that a case tells: so many bytes read and written and the counter where its number is 0, else a refusal with the number and no place
-abbrev pub due_step : ℕ → ℕ → ℕ → ℕ → Step
-due_step zero read wrote c = Done read wrote c
-due_step (suc n) read wrote c = Refused (placeless (suc n))
+abbrev pub due_step : ℕ → ℕ → ℕ → ℕ → Result Step Refusal
+due_step zero read wrote c = step_of read wrote c
+due_step (suc n) read wrote c = Err (placeless (suc n))
 
 -- how far a case tells that names are drawn: to the end of the pattern, one byte before the body
 pub record DueGrowth (c pattern body len : ℕ) (g : Growth) : Type 0 where

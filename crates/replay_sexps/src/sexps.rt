@@ -15,20 +15,17 @@ use records::bodies::quote_view;
 use records::helpers::form_view;
 use records::input::open_input;
 use records::record::body_mark;
-use records::{CONS_LIMIT, MOST_LONGEST, Opening, Step, WORK_FACTOR, Wanted};
+use records::{BodyMark, CONS_LIMIT, MOST_LONGEST, Step, WORK_FACTOR, Wanted};
 use replays::{fill, same_refusal, untouched};
 use walk::invent::invent_new_names_sexp;
 use walk::substitute::{rename_atom, rename_in_cons, rename_in_qq};
-use walk::{Growth, Invented, Task};
+use walk::{Growth, Task};
 
 // The length of work memory that is enough for every F.
 const WORK: usize = WORK_FACTOR * MOST_LONGEST;
 
 // How many bytes of memory each byte of an input takes, with the map that it can leave.
 pub const FACTOR: usize = 4;
-
-// The index of BV among the marks of the B records.
-const VALUE: u8 = 2;
 
 // What a case gives beside its input, and the numbers and the counter that it must get.
 #[derive(Clone, Copy)]
@@ -90,23 +87,29 @@ fn refused_as(number: u32, refusal: Refusal) -> bool
 
 // Whether a step answers as it must: it read and wrote so many bytes and left the counter, or it is
 // refused.
-fn same_step(number: u32, read: usize, wrote: usize, counter: u64, step: Step) -> bool
+fn same_step(
+    number: u32,
+    read: usize,
+    wrote: usize,
+    counter: u64,
+    step: Result<Step, Refusal>,
+) -> bool
     ensures { Decides result (step ≡ due_step number read wrote counter) }
 {
     match step {
-        Step::Done(r, w, c) => {
+        Ok(s) => {
             if number != 0 {
                 return false;
             }
-            if r != read {
+            if s.read != read {
                 return false;
             }
-            if w != wrote {
+            if s.written != wrote {
                 return false;
             }
-            c == counter
+            s.counter == counter
         }
-        Step::Refused(refusal) => {
+        Err(refusal) => {
             if number == 0 {
                 return false;
             }
@@ -116,7 +119,7 @@ fn same_step(number: u32, read: usize, wrote: usize, counter: u64, step: Step) -
 }
 
 // Substitutes the S record at the start of memory by the rule of a case.
-fn substitute(rule: u8, mem: &mut [u8], task: Task) -> Step
+fn substitute(rule: u8, mem: &mut [u8], task: Task) -> Result<Step, Refusal>
     requires { Asks sexp_bytes (Held task.depth) mem.old task }
     ensures { Substitutes (numbered_rule rule) mem.old mem.new task result }
 {
@@ -187,8 +190,8 @@ fn draws(c: Case, mem: &mut [u8], input: &[u8], at: Places, map: &[u8], wanted: 
     load(mem, input);
     let pattern = at.pattern;
     match invent_new_names_sexp(&mut mem[pattern..], 0, c.counter, CONS_LIMIT) {
-        Invented::Refused(r) => refused_as(c.invented, r) && is_word(mem, 0, input),
-        Invented::Drawn(g) => {
+        Err(r) => refused_as(c.invented, r) && is_word(mem, 0, input),
+        Ok(g) => {
             if c.invented != 0 {
                 return false;
             }
@@ -214,9 +217,9 @@ fn finds(c: Case, mem: &mut [u8], input: &[u8], map: &[u8], wanted: &[u8]) -> bo
     if v.count != 0 {
         return false;
     }
-    if body_mark(&input[body..]) != VALUE {
+    let Some(BodyMark::Value) = body_mark(&input[body..]) else {
         return false;
-    }
+    };
     let at = Places {
         pattern: v.args,
         body,
@@ -238,7 +241,7 @@ pub fn agrees(c: Case, mem: &mut [u8], input: &[u8], map: &[u8], wanted: &[u8]) 
     ensures { result ≡ true → InputAsTold c input.now map.now wanted.now }
 {
     match open_input(Wanted::Form, c.f, WORK, c.counter, input) {
-        Opening::Refused(_) => false,
-        Opening::Accepted => finds(c, mem, input, map, wanted),
+        Err(_) => false,
+        Ok(()) => finds(c, mem, input, map, wanted),
     }
 }

@@ -13,7 +13,6 @@ use Rattle.names.proofs.Places.{at_left, at_right, at_place, at_join}
 use Rattle.records.specs.StepAnswer.{Gives}
 use Rattle.records.specs.Records.{Helpers, []ʰ, ◌∷ʰ◌}
 use Rattle.records.specs.declared.Step.{Step}
-use Rattle.records.specs.declared.Step.TheVariants.{Refused as Unwritten}
 use Rattle.walk.specs.Arena.{outcome}
 use Rattle.walk.specs.FormWalks.{RestOf, rest_bytes, rest_room, helpers_room, EachFineHelper, FineRest, rest_by, headed, FineAfter, AfterReady, WalksAfter, RestReady, WalksRest, ComesOut}
 use Rattle.walk.specs.Room.{room}
@@ -21,7 +20,6 @@ use Rattle.walk.specs.Steps.{M, step}
 use Rattle.walk.specs.Walking.{Finishes}
 use Rattle.walk.specs.declared.Child.TheVariants.{Helperform, Compileform}
 use Rattle.walk.specs.declared.Piece.{Piece}
-use Rattle.walk.specs.declared.Piece.TheVariants.{Done as Took, Refused as Stopped}
 use Rattle.walk.specs.declared.Rest.{Rest}
 use Rattle.walk.specs.declared.Rest.TheVariants.{OneBody, OneForm, Listed, Parts}
 use Rattle.walk.specs.declared.Task.{Task}
@@ -35,6 +33,9 @@ use Rattle.walk.proofs.Results.{some_level, room_down}
 use Rattle.walk.proofs.TreeLaws.{tree_level}
 use Rattle.walk.proofs.Unique.{Unique, tells_of}
 use Rattle.walk.proofs.Wholes.{from_length, whole_frame, whole_at, map_from, finished_as, refused_as}
+use Rattle.std.specs.declared.result.Result.{Result}
+use Rattle.std.specs.declared.result.Result.TheVariants.{Err}
+use Rattle.walk.specs.RuleAnswers.{piece_of}
 
 -- one rest at most stands behind a head
 unique_after : (k : Rest) (head : Bytes) (F d : ℕ) → Unique (headed k head) (FineAfter k head F d)
@@ -126,7 +127,7 @@ module _ {k : Rest} {way : Way} {old : Bytes} {at : ℕ} {t : Task} (p : AfterRe
           taken = λ e. absurd (fresh e);
         }
 
-    module _ {x : Bytes} {a : Piece} (w : WalksRest k way (from one at) x 0 rest_task a) where
+    module _ {x : Bytes} {a : Result Piece Refusal} (w : WalksRest k way (from one at) x 0 rest_task a) where
       -- memory after it
       abbrev two : Bytes
       two = rejoin one at x
@@ -150,15 +151,15 @@ module _ {k : Rest} {way : Way} {old : Bytes} {at : ℕ} {t : Task} (p : AfterRe
           (omega (arith, headed_length tree, p.ready.below)) p.ready.good.fine
 
       -- what is given of the rest that is known is the answer
-      after_tells : {z : Step} → Gives (headed k head) two free (length (headed k head tree)) (outcome (step F (λ v. length (headed k head v)) run t.counter 0)) z → WalksAfter k way old two at t z
+      after_tells : {z : Result Step Refusal} → Gives (headed k head) two free (length (headed k head tree)) (outcome (step F (λ v. length (headed k head v)) run t.counter 0)) z → WalksAfter k way old two at t z
       after_tells g = tells_of (unique_after k head F t.depth) p.ready two_frame g
 
       -- the rest is refused
-      pub after_stopped : (q : Refusal) → a ≡ Stopped q → WalksAfter k way old two at t (Unwritten q)
+      pub after_stopped : (q : Refusal) → a ≡ Err q → WalksAfter k way old two at t (Err q)
       after_stopped q e = after_tells (refused_as (headed k head) F run t.counter (outcome_stops (stayed_as q e answer)) refl)
 
       -- it is written behind the head
-      module _ (i j s c : ℕ) (e : a ≡ Took i j s c) where
+      module _ (i j s c : ℕ) (e : a ≡ piece_of i j s c) where
         done : Came (rest_bytes k) F x free (length (rest_bytes k tree)) run t.counter 0 i j s c
         done = came_as i j s c e answer
 
@@ -177,7 +178,7 @@ module _ {k : Rest} {way : Way} {old : Bytes} {at : ℕ} {t : Task} (p : AfterRe
         after_sums = (omega (arith, done.read, headed_length tree, p.ready.below), omega (arith, rest_out.fits, done.wrote, two_frame.size))
 
         -- the record is finished
-        pub after_finished : {z : Step} → Finishes (at + i) (at + j) F c z → WalksAfter k way old two at t z
+        pub after_finished : {z : Result Step Refusal} → Finishes (at + i) (at + j) F c z → WalksAfter k way old two at t z
         after_finished f =
             after_tells
             (finished_as (headed k head) run t.counter f (outcome_done done.run_done) (omega (arith, done.read, headed_length tree)) (omega (arith, done.wrote, headed_length done.u)) all_out)

@@ -8,7 +8,7 @@ use native.Mathlib.Omega.{arith}
 use lib.Dec.{leb, le→leb}
 use lib.ListN.{length, take, drop}
 use lib.Seq.{take_at}
-use Rattle.names.specs.CallAnswer.{Result, accepted_answer, refused_answer, delivered, written, max_counter}
+use Rattle.names.specs.CallAnswer.{CallResult, accepted_answer, refused_answer, delivered, written, max_counter}
 use Rattle.names.specs.Names.{Bytes}
 use Rattle.names.specs.Refusals.{placeless}
 use Rattle.names.proofs.Same.{T-both, T-left}
@@ -47,7 +47,7 @@ module _ (F work : ℕ) where
   opened_limits reader c input a h = (rw h at (through reader F work c input)).within
 
 -- What a call has written, with the answer and buffer r, is the record of the tree that its walk gives, and the call's reader opens it as that tree.
-pub record Again {A : Type 0} (reader : Reader A) (walk_of : ℕ → A → M A) (bytes : A → Bytes) (F work c : ℕ) (input : Bytes) (r : Result) : Type 0 where
+pub record Again {A : Type 0} (reader : Reader A) (walk_of : ℕ → A → M A) (bytes : A → Bytes) (F work c : ℕ) (input : Bytes) (r : CallResult) : Type 0 where
   pub given : A
   pub is_given : open_input reader F work c input ≡ opened given
   pub result : A
@@ -68,16 +68,16 @@ module _ {A : Type 0} {reader : Reader A} {walk_of : ℕ → A → M A} {bytes :
     (runs : (F : ℕ) (a : A) → deep a ≤ level_limit → Runs (dbl level_limit (count a)) (λ b. (deep b ≤ deep a) × (count b ≤ count a)) (walk_of F a))
     (keeps : (F : ℕ) (a : A) → Kept Fields lambdas Clear Plain lambda_limit a → Gives Plain (Fits F bytes (Kept Fields lambdas Clear Plain lambda_limit)) (walk_of F a)) where
   call_again : (F work c : ℕ) (input buffer : Bytes) → AreBytes input
-      → let r : Result = answered bytes c buffer (call_run reader walk_of F work c input) in r.0.refusal.number ≡ 0 → Again reader walk_of bytes F work c input r
+      → let r : CallResult = answered bytes c buffer (call_run reader walk_of F work c input) in r.0.refusal.number ≡ 0 → Again reader walk_of bytes F work c input r
   unfolding call_run answered refused_answer delivered written
   call_again F work c input buffer b = go (open_input reader F work c input) refl (start reader F work c input)
     where
-      Goal : Result → Type 0
+      Goal : CallResult → Type 0
       Goal r = r.0.refusal.number ≡ 0 → Again reader walk_of bytes F work c input r
 
       delivers : (a t : A) (log : List Event) (c' x : ℕ) → open_input reader F work c input ≡ opened a → walk_of F a c 0 ≡ done log t c' x
           → deep t ≤ level_limit → Fits F bytes (Kept Fields lambdas Clear Plain lambda_limit) t → (y : Bool)
-          → Goal (elim y as (λ _. Result) [ true ↦ (accepted_answer c' 0 (length (bytes t)), written (bytes t) buffer) | false ↦ refused_answer c buffer (placeless 8) ])
+          → Goal (elim y as (λ _. CallResult) [ true ↦ (accepted_answer c' 0 (length (bytes t)), written (bytes t) buffer) | false ↦ refused_answer c buffer (placeless 8) ])
       delivers a t log c' x e w h k true z =
           let q = take_at (bytes t) (drop (length (bytes t)) buffer) (length (bytes t)) refl in
           record {

@@ -23,7 +23,6 @@ use Rattle.records.specs.StepAnswer.{refuses, refused}
 use Rattle.records.specs.Limits.{most_longest}
 use Rattle.records.specs.Records.{mark_width, loc_width, Loc, loc_number, kind_field, byte, Kind, Assign, Body, BL, body_bytes, Bindings, bindings_bytes, bindings_count, list_of}
 use Rattle.records.specs.Valid.{IsLet, BodyFields}
-use Rattle.records.specs.declared.Step.TheVariants.{Refused}
 use Rattle.walk.specs.Arena.{outcome}
 use Rattle.walk.specs.AssignWalks.{let_bindings, OrderedReady}
 use Rattle.walk.specs.Bodyforms.{walk, deadlocked}
@@ -36,6 +35,7 @@ use Rattle.walk.proofs.Results.{some_level, least_room}
 use Rattle.walk.proofs.RunLaws.{step_refuses}
 use Rattle.walk.proofs.TurnedLaws.{AssignParts, assign_parts}
 use Rattle.walk.proofs.Unique.{unique_fine, tells_of}
+use Rattle.std.specs.declared.result.Result.TheVariants.{Err}
 
 module _ {mem : Bytes} {t : Task} (p : BodyReady (IsLet Assign) true mem t) where
   pub view : AssignParts p.tree
@@ -108,7 +108,7 @@ module _ {mem : Bytes} {t : Task} (p : BodyReady (IsLet Assign) true mem t) wher
     refuses_so r c x = refl
 
     pub deadlock_refused : {n : ℕ} {at : Place} {q : Refusal} → o.placed < o.count → n ≡ number_of (take loc_width (drop (mark_width + 1) mem)) → at ≡ place_at n → q ≡ refusing 5 at
-        → Walks (IsLet Assign) true mem mem t (Refused q)
+        → Walks (IsLet Assign) true mem mem t (Err q)
     deadlock_refused {n} {at} {q} lt e₁ e₂ e₃ =
         let e : q ≡ deadlocked view.l = e₃ ∙ ap (refusing 5) (e₂ ∙ ap place_at (e₁ ∙ loc_is)) in
         let run = no_order t.f (walk t.f (t.depth - 1)) view.l view.w view.h (list_of view.bs) view.e _ (stuck lt) in

@@ -23,7 +23,6 @@ use Rattle.walk.specs.Draws.{binding_atoms, dbl}
 use Rattle.walk.specs.DrawnMaps.{map_growth}
 use Rattle.walk.specs.Steps.{M, ◌>>=◌}
 use Rattle.walk.specs.declared.Made.{Made}
-use Rattle.walk.specs.declared.Made.TheVariants.{Done as Has, Refused as Not}
 use Rattle.walk.specs.declared.Task.{Task}
 use Rattle.walk.proofs.Joined.{each_at, piece_at, piece_within, piece_size}
 use Rattle.walk.proofs.Limits.{runs_walk, runs_rename_assign_binding}
@@ -36,6 +35,9 @@ use Rattle.walk.proofs.RunLaws.{then_then, ret_then}
 use Rattle.walk.proofs.Sizes.{dbl_add}
 use Rattle.walk.proofs.Unique.{unique_bindings}
 use Rattle.walk.proofs.Wholes.{from_length, whole_frame, whole_at}
+use Rattle.std.specs.declared.result.Result.{Result}
+use Rattle.std.specs.declared.result.Result.TheVariants.{Err}
+use Rattle.walk.specs.RuleAnswers.{made_with}
 
 -- fine bindings are valid
 pub each_valid : (F d : ℕ) (bs : List Binding) → Each (AssignBinding F d) bs → Each ValidBinding bs
@@ -86,7 +88,7 @@ module _ {old : Bytes} {row starts : List ℕ} {t : Task} (p : BindingsReady old
   }
 
   -- what is answered of the bindings that are known to stand there
-  makes : {new : Bytes} {r : Made} → SameOutside old new (t.free - 2 * t.f) (length old)
+  makes : {new : Bytes} {r : Result Made Refusal} → SameOutside old new (t.free - 2 * t.f) (length old)
       → MakesRun (λ u. joined binding_bytes u.1) (λ u. length u.1 ≡ length row) t.f (map_growth * t.f) (at_all binding_size p.bs row) new (λ n. t.free - n) (all_run row [] []) t.counter 0 r
       → MakesBindings old new row starts t r
   makes {new} {r} f x = record {
@@ -99,7 +101,7 @@ module _ {old : Bytes} {row starts : List ℕ} {t : Task} (p : BindingsReady old
   }
 
   -- after the last turn
-  pub loop_ends : {mem : Bytes} {top sum map c j : ℕ} → Looping mem top sum map c j → length row ≤ j → MakesBindings old mem row starts t (Has (t.free - top) sum map c)
+  pub loop_ends : {mem : Bytes} {top sum map c j : ℕ} → Looping mem top sum map c j → length row ≤ j → MakesBindings old mem row starts t (made_with (t.free - top) sum map c)
   unfolding rename_assign_bindings at_all
   loop_ends {mem} {top} {sum} {map} {c} {j} l le =
       let none : drop j row ≡ [] = (let e : j ≡ length row = omega (arith, l.upto) in ap (λ (n : ℕ). drop n row) e ∙ drop-length row) in
@@ -107,7 +109,7 @@ module _ {old : Bytes} {row starts : List ℕ} {t : Task} (p : BindingsReady old
       let n : t.free - top ≡ length (joined binding_bytes l.us) = omega (arith, l.size) in
       makes l.frame
       (made (l.m, l.us) map c sum (omega (arith, l.many, l.upto)) (λ k. l.runs k ∙ ap (λ (is : List ℕ). outcome ((all_run is l.m l.us >>= k) c sum)) none ∙ ret_then k (l.m, l.us) c sum)
-      (ap (λ (i : ℕ). Has i sum map c) n) (at_place (t.free - length (joined binding_bytes l.us)) (omega (arith, l.size)) l.out) l.names
+      (ap (λ (i : ℕ). made_with i sum map c) n) (at_place (t.free - length (joined binding_bytes l.us)) (omega (arith, l.size)) l.out) l.names
       (record { map = omega (arith, l.grown, p.short); sum = l.held; long = omega (arith, l.long) }))
 
   pub top_low : {mem : Bytes} {top sum map c j : ℕ} → Looping mem top sum map c j → top ≤ t.free
@@ -124,11 +126,8 @@ module _ {old : Bytes} {row starts : List ℕ} {t : Task} (p : BindingsReady old
     abbrev pub at : ℕ
     at = get_or starts index 0
 
-    pub index_low : index < length p.bs
+    index_low : index < length p.bs
     index_low = p.rows j lt
-
-    pub index_in : index + 1 < length starts
-    index_in = omega (arith, index_low, p.stand.many)
 
     rest : drop j row ≡ index ∷ drop (suc j) row
     rest = drop-cons row j 0 lt
@@ -196,7 +195,7 @@ module _ {old : Bytes} {row starts : List ℕ} {t : Task} (p : BindingsReady old
           held = l.held;
         }
 
-    module _ {y : Bytes} {r : Made} (s : MakesBinding (from mem at) y sum next_task r) where
+    module _ {y : Bytes} {r : Result Made Refusal} (s : MakesBinding (from mem at) y sum next_task r) where
       abbrev pub turned : Bytes
       turned = rejoin mem at y
 
@@ -224,10 +223,10 @@ module _ {old : Bytes} {row starts : List ℕ} {t : Task} (p : BindingsReady old
           l.runs k ∙ ap (λ (is : List ℕ). outcome ((all_run is l.m l.us >>= k) c sum)) rest
           ∙ then_then next_run (λ u. all_run (drop (suc j) row) u.0 (u.1 ∷ l.us)) k c sum
 
-      pub turn_refused : (k : Refusal) → r ≡ Not k → MakesBindings old turned row starts t (Not k)
+      pub turn_refused : (k : Refusal) → r ≡ Err k → MakesBindings old turned row starts t (Err k)
       turn_refused k e = makes turn_frame (stopped k (λ i. opened i ∙ unmade_of k e said (λ u. all_run (drop (suc j) row) u.0 (u.1 ∷ l.us) >>= i)) refl)
 
-      module _ {w x len d : ℕ} (e : r ≡ Has w x len d) where
+      module _ {w x len d : ℕ} (e : r ≡ made_with w x len d) where
         got : MadeOf (λ u. binding_bytes u.1) AnyMade t.f (map + map_growth * length (binding_bytes next)) (length (binding_bytes next)) y (λ n. t.free - at) next_run c sum w x len d
         got = made_of w x len d e said
 

@@ -20,6 +20,8 @@ use Rattle.walk.proofs.MapLaws.{no_map, map_of_part}
 use Rattle.walk.proofs.OnParts.{from, rejoin}
 use Rattle.walk.proofs.Results.{some_level, least_room}
 use Rattle.walk.proofs.Wholes.{from_length, cut_frame, cut_gives, whole_frame, whole_gives}
+use Rattle.std.specs.declared.result.Result.{Result}
+use Rattle.names.specs.declared.Refusal.{Refusal}
 
 module _ {mem : Bytes} {at aside : ℕ} {t : Task} {owning : Bool} (p : BindReady mem at aside t owning) where
   -- both results have their room
@@ -55,7 +57,7 @@ module _ {mem : Bytes} {at aside : ℕ} {t : Task} {owning : Bool} (p : BindRead
         }
 
     -- what Own answers
-    pub own_bound : {y : Bytes} {r : Step} → Walks AnyBody true (part mem at (aside - at)) y t r → BodyBound mem (back mem at (aside - at) y) at aside t owning p r
+    pub own_bound : {y : Bytes} {r : Result Step Refusal} → Walks AnyBody true (part mem at (aside - at)) y t r → BodyBound mem (back mem at (aside - at) y) at aside t owning p r
     unfolding own_ready
     own_bound {y} {r} s =
         let z = p.ends.lone own in
@@ -89,7 +91,7 @@ module _ {mem : Bytes} {at aside : ℕ} {t : Task} {owning : Bool} (p : BindRead
         }
 
     -- what In-body answers
-    pub in_bound : {y : Bytes} {r : Step} → Walks AnyBody false (from mem at) y t r → BodyBound mem (rejoin mem at y) at aside t owning p r
+    pub in_bound : {y : Bytes} {r : Result Step Refusal} → Walks AnyBody false (from mem at) y t r → BodyBound mem (rejoin mem at y) at aside t owning p r
     unfolding in_ready
     in_bound {y} {r} s =
         let q = in_ready in

@@ -24,7 +24,6 @@ use Rattle.walk.specs.Draws.{atoms, sexp_atoms, pattern_atoms, binding_atoms}
 use Rattle.walk.specs.DrawnMaps.{map_growth}
 use Rattle.walk.specs.Steps.{M, ◌>>=◌}
 use Rattle.walk.specs.declared.Made.{Made}
-use Rattle.walk.specs.declared.Made.TheVariants.{Done as Has, Refused as Not}
 use Rattle.walk.specs.declared.Task.{Task}
 use Rattle.walk.proofs.LetHeads.{binding_head, binding_split, binding_head_length}
 use Rattle.walk.proofs.MakesLaws.{MadeOf, made_of, unmade_of}
@@ -34,6 +33,9 @@ use Rattle.walk.proofs.PartMaps.{map_back}
 use Rattle.walk.proofs.RunLaws.{ret_then}
 use Rattle.walk.proofs.Unique.{Unique, unique_binding, tells_of}
 use Rattle.walk.proofs.Wholes.{from_length, whole_frame, whole_at, map_from}
+use Rattle.std.specs.declared.result.Result.{Result}
+use Rattle.std.specs.declared.result.Result.TheVariants.{Err}
+use Rattle.walk.specs.RuleAnswers.{made_with}
 
 -- the bytes before a pattern
 abbrev pub before_pattern : ℕ
@@ -125,7 +127,7 @@ module _ {mem : Bytes} {n sum : ℕ} {t : Task} (p : BindingReady mem n sum t) w
   )
 
   -- what is answered of the binding that is known to stand there
-  makes : {new : Bytes} {r : Made} → SameOutside mem new t.free (length mem - t.map)
+  makes : {new : Bytes} {r : Result Made Refusal} → SameOutside mem new t.free (length mem - t.map)
       → MakesRun (λ u. binding_bytes u.1) AnyMade t.f (t.map + map_growth * length (binding_bytes p.ready.tree)) (length (binding_bytes p.ready.tree)) new (λ k. t.free)
       (rename_assign_binding t.f (walk t.f t.depth) p.ready.m p.ready.tree) t.counter sum r → MakesBinding mem new sum t r
   makes f x = tells_of unique_fine_binding p.ready f x
@@ -137,14 +139,14 @@ module _ {mem : Bytes} {n sum : ℕ} {t : Task} (p : BindingReady mem n sum t) w
       subst (λ (z : Binding). outcome ((rename_assign_binding t.f (walk t.f t.depth) p.ready.m z >>= k) t.counter sum) ≡ outcome (k (p.ready.m, z) t.counter sum)) (sym w.is)
       (ret_then k (p.ready.m, BB w.l w.nl (Name w.n) w.e) t.counter sum)
 
-  pub name_made : {new : Bytes} → get_or mem before_pattern 0 ≡ 0 → Filled mem new t.free (drop 0 mem) n → MakesBinding mem new sum t (Has n sum t.map t.counter)
+  pub name_made : {new : Bytes} → get_or mem before_pattern 0 ≡ 0 → Filled mem new t.free (drop 0 mem) n → MakesBinding mem new sum t (made_with n sum t.map t.counter)
   name_made {new} z f =
       let q = p.ready in
       let h = head_fits in
       let w = is_name q.tree q.good.valid q.there z in
       let frame = same_wider t.free (length mem - t.map) (omega arith) (omega (arith, h.2, h.3)) f.frame in
       makes frame
-      (made (q.m, q.tree) t.map t.counter sum tt (name_runs q.tree w) (ap (λ (k : ℕ). Has k sum t.map t.counter) p.size)
+      (made (q.m, q.tree) t.map t.counter sum tt (name_runs q.tree w) (ap (λ (k : ℕ). made_with k sum t.map t.counter) p.size)
       (copied_at 0 t.free f (omega (arith, h.2, h.3)) q.there (omega arith) (omega (arith, p.size)) (omega arith))
       (map_after frame (omega (arith, h.3)) q.map) (record { map = omega arith; sum = p.held; long = omega arith }))
 
@@ -206,7 +208,7 @@ module _ {mem : Bytes} {n sum : ℕ} {t : Task} (p : BindingReady mem n sum t) w
           held = p.held;
         }
 
-    module _ {y : Bytes} {r : Made} (s : MakesComplex (from a (before_pattern + 1)) y sum t r) where
+    module _ {y : Bytes} {r : Result Made Refusal} (s : MakesComplex (from a (before_pattern + 1)) y sum t r) where
       abbrev pub remade : Bytes
       remade = rejoin a (before_pattern + 1) y
 
@@ -230,10 +232,10 @@ module _ {mem : Bytes} {n sum : ℕ} {t : Task} (p : BindingReady mem n sum t) w
       same_run : (k : NameMap × Binding → M Body) → outcome ((rename_assign_binding t.f (walk t.f t.depth) p.ready.m p.ready.tree >>= k) t.counter sum) ≡ outcome ((seen_run >>= k) t.counter sum)
       same_run k = ap (λ (b : Binding). outcome ((rename_assign_binding t.f (walk t.f t.depth) p.ready.m b >>= k) t.counter sum)) seen.is
 
-      pub binding_refused : (k : Refusal) → r ≡ Not k → MakesBinding mem remade sum t (Not k)
+      pub binding_refused : (k : Refusal) → r ≡ Err k → MakesBinding mem remade sum t (Err k)
       binding_refused k e = makes both_frame (stopped k (λ j. same_run j ∙ unmade_of k e said j) refl)
 
-      module _ {w x len d : ℕ} (e : r ≡ Has w x len d) where
+      module _ {w x len d : ℕ} (e : r ≡ made_with w x len d) where
         got : MadeOf (λ u. inner u.1) (Shaped seen.l seen.nl) t.f (t.map + map_growth * length (sexp_bytes seen.p)) 0 y (λ k. t.free) seen_run t.counter sum w x len d
         got = made_of w x len d e said
 
@@ -257,11 +259,11 @@ module _ {mem : Bytes} {n sum : ℕ} {t : Task} (p : BindingReady mem n sum t) w
             let rest = whole_at a (before_pattern + 1) t.free t.map fit s.frame (t.free + length (tagged seen.l seen.nl)) (omega (arith, tag_size)) got.out in
             subst (At remade t.free) (sym made_bytes) (at_join (tagged seen.l seen.nl) (inner got.u.1) kept rest)
 
-        pub binding_done : MakesBinding mem remade sum t (Has (before_pattern + 1 + w) x len d)
+        pub binding_done : MakesBinding mem remade sum t (made_with (before_pattern + 1 + w) x len d)
         binding_done =
             let h = head_fits in
             let n = length-append (sexp_bytes seen.p) (body_bytes seen.e) in
             makes both_frame
-            (made got.u len d x tt (λ j. same_run j ∙ got.goes_on j) (ap (λ (k : ℕ). Has k x len d) (sym made_size)) stands
+            (made got.u len d x tt (λ j. same_run j ∙ got.goes_on j) (ap (λ (k : ℕ). made_with k x len d) (sym made_size)) stands
             (map_back a (before_pattern + 1) (omega (arith, fit)) s.frame.size got.map)
             (record { map = omega (arith, got.within.map, all_size, n); sum = got.within.sum; long = omega (arith, made_size, got.within.long, all_size) }))

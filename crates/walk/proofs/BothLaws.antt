@@ -15,7 +15,6 @@ use Rattle.names.proofs.Parts.{part, back, part_length, at_part, into}
 use Rattle.records.specs.StepAnswer.{Gives}
 use Rattle.records.specs.Records.{Body, body_bytes}
 use Rattle.records.specs.declared.Step.{Step}
-use Rattle.records.specs.declared.Step.TheVariants.{Done, Refused}
 use Rattle.records.proofs.StepAnswers.{Made, made, unmade}
 use Rattle.walk.specs.Arena.{outcome}
 use Rattle.walk.specs.Bodyforms.{args_then_in, walk}
@@ -24,7 +23,6 @@ use Rattle.walk.specs.Room.{room}
 use Rattle.walk.specs.Steps.{M, ◌>>=◌, over_long, child, further, body_size}
 use Rattle.walk.specs.Walking.{rule, AnyBody, BodyReady, Walks, Leads, led, stopped, BothReady, WalksBoth, OverReady, GoesOver}
 use Rattle.walk.specs.declared.Piece.{Piece}
-use Rattle.walk.specs.declared.Piece.TheVariants.{Done as Took, Refused as Stopped}
 use Rattle.walk.specs.declared.Task.{Task}
 use Rattle.walk.proofs.DoneLaws.{child_gives, child_over, child_refuses, further_gives, further_over, further_refuses}
 use Rattle.walk.proofs.MapLaws.{no_map, map_of_part, map_after}
@@ -34,14 +32,18 @@ use Rattle.walk.proofs.RunLaws.{neutral_rule, then_then}
 use Rattle.walk.proofs.Sizes.{dbl_mono}
 use Rattle.walk.proofs.Unique.{unique_fine, same_map, tells_of}
 use Rattle.walk.proofs.Wholes.{from_length, cut_frame, cut_gives, whole_frame, whole_gives, took_is}
+use Rattle.std.specs.declared.result.Result.{Result}
+use Rattle.std.specs.declared.result.Result.TheVariants.{Err}
+use Rattle.walk.specs.RuleAnswers.{piece_of}
+use Rattle.records.specs.StepAnswer.{step_of}
 
 -- In-body of what stands at free
 module _ {mem : Bytes} {w sum : ℕ} {t : Task} (read : ℕ) (p : OverReady mem w sum t) where
-  abbrev Answers : Bytes → NameMap → Body → Piece → Type 0
+  abbrev Answers : Bytes → NameMap → Body → Result Piece Refusal → Type 0
   Answers new m u r = Leads body_bytes AnyBody t.f new t.free read (further t.f body_size u (rule t.f false t.depth m)) t.counter (sum + w) r
 
   -- what is answered of the body and the map that are known is answered of every one
-  over_of : {new : Bytes} {r : Piece} → SameOutside mem new t.free (length mem - t.map) → Answers new p.m p.tree r → GoesOver mem new read w sum t r
+  over_of : {new : Bytes} {r : Result Piece Refusal} → SameOutside mem new t.free (length mem - t.map) → Answers new p.m p.tree r → GoesOver mem new read w sum t r
   over_of {new} {r} f x =
       record {
         frame = f;
@@ -72,7 +74,7 @@ module _ {mem : Bytes} {w sum : ℕ} {t : Task} (read : ℕ) (p : OverReady mem 
         longest = p.longest;
       }
 
-  module _ {y : Bytes} {r : Step} (s : Walks AnyBody false (from mem t.free) y over_task r) where
+  module _ {y : Bytes} {r : Result Step Refusal} (s : Walks AnyBody false (from mem t.free) y over_task r) where
     abbrev end : Bytes
     end = rejoin mem t.free y
 
@@ -87,12 +89,12 @@ module _ {mem : Bytes} {w sum : ℕ} {t : Task} (read : ℕ) (p : OverReady mem 
     frame_all : SameOutside mem end t.free (length mem - t.map)
     frame_all = same_wider t.free (length mem - t.map) (omega arith) (omega arith) over_frame
 
-    pub over_refused : (q : Refusal) → r ≡ Refused q → GoesOver mem end read w sum t (Stopped q)
+    pub over_refused : (q : Refusal) → r ≡ Err q → GoesOver mem end read w sum t (Err q)
     over_refused q e =
         over_of frame_all
         (stopped q (λ k. further_refuses t.f body_size k (rule t.f false t.depth p.m) p.tree (neutral_rule t.f false t.depth p.m p.tree) t.counter (sum + w) (unmade q e told)) refl)
 
-    module _ (i x d : ℕ) (e : r ≡ Done i x d) where
+    module _ (i x d : ℕ) (e : r ≡ step_of i x d) where
       known : Made body_bytes end (t.free + w) (length (body_bytes p.tree)) (outcome (rule t.f false t.depth p.m p.tree t.counter 0)) i x d
       known = made i x d e told
 
@@ -105,13 +107,13 @@ module _ {mem : Bytes} {w sum : ℕ} {t : Task} (read : ℕ) (p : OverReady mem 
       pub over_moves : Movable end (t.free + w) t.free x
       over_moves = record { source = omega (arith, over_room, over_frame.size); target = omega (arith, over_room, over_frame.size); safe = inr (omega arith) }
 
-      pub over_too_long : (q : Refusal) → q ≡ over_long → t.f < sum + x → GoesOver mem end read w sum t (Stopped q)
+      pub over_too_long : (q : Refusal) → q ≡ over_long → t.f < sum + x → GoesOver mem end read w sum t (Err q)
       unfolding body_size
       over_too_long q o lt =
           over_of frame_all
-          (stopped over_long (λ k. further_over t.f body_size k (rule t.f false t.depth p.m) p.tree (neutral_rule t.f false t.depth p.m p.tree) t.counter (sum + w) known.is (omega (arith, known.wrote, p.wrote))) (ap Stopped o))
+          (stopped over_long (λ k. further_over t.f body_size k (rule t.f false t.depth p.m) p.tree (neutral_rule t.f false t.depth p.m p.tree) t.counter (sum + w) known.is (omega (arith, known.wrote, p.wrote))) (ap Err o))
 
-      pub over_done : {new : Bytes} → sum + x ≤ t.f → Filled end new t.free (drop (t.free + w) end) x → GoesOver mem new read w sum t (Took read x (sum + x) d)
+      pub over_done : {new : Bytes} → sum + x ≤ t.f → Filled end new t.free (drop (t.free + w) end) x → GoesOver mem new read w sum t (piece_of read x (sum + x) d)
       unfolding body_size
       over_done {new} le v =
           let z = over_frame.size in
@@ -163,7 +165,7 @@ module _ {mem : Bytes} {sum : ℕ} {t : Task} (p : BothReady mem sum t) where
         longest = p.ready.longest;
       }
 
-  module _ {y : Bytes} {r : Step} (s : Walks AnyBody true cut y own_task r) where
+  module _ {y : Bytes} {r : Result Step Refusal} (s : Walks AnyBody true cut y own_task r) where
     abbrev half : Bytes
     half = back mem 0 top y
 
@@ -182,23 +184,23 @@ module _ {mem : Bytes} {sum : ℕ} {t : Task} (p : BothReady mem sum t) where
     unfolding args_then_in
     opened k = then_then (child t.f body_size (rule t.f true t.depth p.ready.m b)) (λ u. further t.f body_size u (rule t.f false t.depth p.ready.m)) k t.counter sum
 
-    pub own_refused : (q : Refusal) → r ≡ Refused q → WalksBoth mem half sum t (Stopped q)
+    pub own_refused : (q : Refusal) → r ≡ Err q → WalksBoth mem half sum t (Err q)
     own_refused q e =
         tells_of unique_fine p.ready own_frame
         (stopped q (λ k. opened k ∙ child_refuses t.f body_size (after_own k) (neutral_rule t.f true t.depth p.ready.m b) t.counter sum (unmade q e own_told)) refl)
 
-    module _ (i w d : ℕ) (e : r ≡ Done i w d) where
+    module _ (i w d : ℕ) (e : r ≡ step_of i w d) where
       own_made : Made body_bytes half t.free (length (body_bytes b)) (outcome (rule t.f true t.depth p.ready.m b t.counter 0)) i w d
       own_made = made i w d e own_told
 
       pub own_short : w ≤ t.f
       own_short = omega (arith, own_made.wrote, rule_short t.f true t.depth p.ready.m b t.counter own_made.is)
 
-      pub own_too_long : (q : Refusal) → q ≡ over_long → t.f < sum + w → WalksBoth mem half sum t (Stopped q)
+      pub own_too_long : (q : Refusal) → q ≡ over_long → t.f < sum + w → WalksBoth mem half sum t (Err q)
       unfolding body_size
       own_too_long q o lt =
           tells_of unique_fine p.ready own_frame
-          (stopped over_long (λ k. opened k ∙ child_over t.f body_size (after_own k) (neutral_rule t.f true t.depth p.ready.m b) t.counter sum own_made.is (omega (arith, own_made.wrote))) (ap Stopped o))
+          (stopped over_long (λ k. opened k ∙ child_over t.f body_size (after_own k) (neutral_rule t.f true t.depth p.ready.m b) t.counter sum own_made.is (omega (arith, own_made.wrote))) (ap Err o))
 
       module _ (le : sum + w ≤ t.f) where
         abbrev then_task : Task
@@ -221,7 +223,7 @@ module _ {mem : Bytes} {sum : ℕ} {t : Task} (p : BothReady mem sum t) where
               longest = p.ready.longest;
             }
 
-        pub both_over : {new : Bytes} {r₂ : Piece} → GoesOver half new i w sum then_task r₂ → WalksBoth mem new sum t r₂
+        pub both_over : {new : Bytes} {r₂ : Result Piece Refusal} → GoesOver half new i w sum then_task r₂ → WalksBoth mem new sum t r₂
         unfolding body_size then_ready
         both_over {new} {r₂} v =
             let z = own_frame.size in

@@ -16,7 +16,6 @@ use Rattle.walk.specs.FormWalks.{RestOf, rest_bytes, rest_records, rest_atoms, r
 use Rattle.walk.specs.Room.{room}
 use Rattle.walk.specs.Steps.{M}
 use Rattle.walk.specs.declared.Piece.{Piece}
-use Rattle.walk.specs.declared.Piece.TheVariants.{Done as Took, Refused as Stopped}
 use Rattle.walk.specs.declared.Rest.{Rest}
 use Rattle.walk.specs.declared.Rest.TheVariants.{OneBody, OneForm, Listed, Parts}
 use Rattle.walk.specs.declared.Task.{Task}
@@ -30,6 +29,9 @@ use Rattle.walk.proofs.Sizes.{dbl_mono}
 use Rattle.walk.proofs.Unique.{tells_of}
 use Rattle.walk.proofs.WayLaws.{own_fresh}
 use Rattle.walk.proofs.Wholes.{from_length, cut_frame, whole_frame, map_from, took_is}
+use Rattle.std.specs.declared.result.Result.{Result}
+use Rattle.std.specs.declared.result.Result.TheVariants.{Err}
+use Rattle.walk.specs.RuleAnswers.{piece_of}
 
 -- the args-rules need no map
 own_any : (F : ℕ) (k : Rest) (d : ℕ) (m n : NameMap) (r : RestOf k) → rest_by F k Own d m r ≡ rest_by F k Own d n r
@@ -92,7 +94,7 @@ module _ {k : Rest} {mem : Bytes} {sum : ℕ} {t : Task} (p : BothRestReady k me
         taken = λ e. absurd (own_fresh e);
       }
 
-  module _ {y : Bytes} {a : Piece} (s : WalksRest k Own cut y sum own_task a) where
+  module _ {y : Bytes} {a : Result Piece Refusal} (s : WalksRest k Own cut y sum own_task a) where
     -- memory after them
     abbrev half : Bytes
     half = back mem 0 top y
@@ -109,12 +111,12 @@ module _ {k : Rest} {mem : Bytes} {sum : ℕ} {t : Task} (p : BothRestReady k me
         (s.says [] no_map r there p.ready.below p.ready.good))
 
     -- they refuse
-    pub own_refused : (q : Refusal) → a ≡ Stopped q → WalksBothRest k mem half sum t (Stopped q)
+    pub own_refused : (q : Refusal) → a ≡ Err q → WalksBothRest k mem half sum t (Err q)
     own_refused q e =
         tells_of (unique_rest k t.f t.depth) p.ready own_frame
         (stayed q (then_stops (rest_by t.f k Own t.depth m r) (rest_by t.f k Further t.depth m) (stayed_as q e own_told)) refl)
 
-    module _ (i w x c : ℕ) (e : a ≡ Took i w x c) where
+    module _ (i w x c : ℕ) (e : a ≡ piece_of i w x c) where
       -- they are done
       own_came : Came (rest_bytes k) t.f half t.free (length (rest_bytes k r)) (rest_by t.f k Own t.depth m r) t.counter sum i w x c
       own_came = came_as i w x c e own_told
@@ -173,7 +175,7 @@ module _ {k : Rest} {mem : Bytes} {sum : ℕ} {t : Task} (p : BothRestReady k me
             taken = λ o. omega (arith, own_sum);
           }
 
-      module _ {z : Bytes} {b : Piece} (v : WalksRest k Further (from half t.free) z x further_task b) where
+      module _ {z : Bytes} {b : Result Piece Refusal} (v : WalksRest k Further (from half t.free) z x further_task b) where
         -- memory after them
         abbrev end : Bytes
         end = rejoin half t.free z
@@ -193,12 +195,12 @@ module _ {k : Rest} {mem : Bytes} {sum : ℕ} {t : Task} (p : BothRestReady k me
         end_frame = let n = own_frame.size in same_then t.free (length mem - t.map) (omega arith) (omega arith) (omega arith) (omega arith) own_frame further_frame
 
         -- they refuse
-        pub further_refused : (q : Refusal) → b ≡ Stopped q → WalksBothRest k mem end sum t (Stopped q)
+        pub further_refused : (q : Refusal) → b ≡ Err q → WalksBothRest k mem end sum t (Err q)
         further_refused q o =
             tells_of (unique_rest k t.f t.depth) p.ready end_frame
             (stayed q (then_stops_later (rest_by t.f k Own t.depth m r) (rest_by t.f k Further t.depth m) own_came.run_done (stayed_as q o further_told)) refl)
 
-        module _ (j n x₂ d : ℕ) (o : b ≡ Took j n x₂ d) where
+        module _ (j n x₂ d : ℕ) (o : b ≡ piece_of j n x₂ d) where
           -- they are done
           further_came : Came (rest_bytes k) t.f end (t.free + w) (length (rest_bytes k u)) (rest_by t.f k Further t.depth m u) c x j n x₂ d
           further_came = came_as j n x₂ d o further_told
@@ -222,7 +224,7 @@ module _ {k : Rest} {mem : Bytes} {sum : ℕ} {t : Task} (p : BothRestReady k me
           further_moves = record { source = omega (arith, end_fits); target = omega (arith, end_fits); safe = inr (omega arith) }
 
           -- and that is the answer of both
-          pub both_walks : {new : Bytes} → Filled end new t.free (drop (t.free + w) end) n → WalksBothRest k mem new sum t (Took i n x₂ d)
+          pub both_walks : {new : Bytes} → Filled end new t.free (drop (t.free + w) end) n → WalksBothRest k mem new sum t (piece_of i n x₂ d)
           both_walks g =
               let l = end_frame.size in
               tells_of (unique_rest k t.f t.depth) p.ready

@@ -4,12 +4,12 @@ use mathlib.Core.Logic.{inl, inr}
 use mathlib.Core.Bool.{Bool, true, false}
 use mathlib.Core.List.Memᴰ
 use mathlib.Core.List.{List, []}
-use mathlib.Core.Option.{Option, none}
+use Rattle.std.specs.Prelude.{Option, None}
 use Prim.Native.Nat.{ℕ, ◌+◌, ◌≤◌}
 use native.Mathlib.Omega.{arith}
 use lib.Dec.{leb}
 use lib.ListN.{length}
-use Rattle.names.specs.CallAnswer.{Result, accepted_answer, refused_answer, delivered, written}
+use Rattle.names.specs.CallAnswer.{CallResult, accepted_answer, refused_answer, delivered, written}
 use Rattle.names.specs.Names.{Bytes}
 use Rattle.names.specs.Refusals.{placeless}
 use Rattle.names.specs.declared.Refusal.{Refusal}
@@ -38,7 +38,7 @@ unfolding dbl
 most_draws = refl
 
 -- a call from the counter c, the assigns that it reaches, and its answer: no number above 8, and no counter that passes 64 bits
-pub record CallBounded (c : ℕ) (list : List Visit) (r : Result) : Type 0 where
+pub record CallBounded (c : ℕ) (list : List Visit) (r : CallResult) : Type 0 where
   pub number : r.0.refusal.number ≤ 8
   pub counter : r.0.counter ≤ c + most
   pub inside : (e : Visit) → e is_in list → e.counter ≤ c + most
@@ -49,7 +49,7 @@ module _ {A : Type 0} (reader : Reader A) (walk_of : ℕ → A → M A) (bytes :
     (few : (a : A) → count a ≤ length (bytes a))
     (s : (F : ℕ) (a : A) → deep a ≤ level_limit → Runs (dbl level_limit (count a)) (λ b. (deep b ≤ deep a) × (count b ≤ count a)) (walk_of F a)) where
   bounded : (F work c : ℕ) (input : Bytes) (a : A) → OpenedFrom reader F c input a → Fine (dbl level_limit (count a)) (λ b. (deep b ≤ deep a) × (count b ≤ count a)) c (walk_of F a c 0)
-  bounded F work c input a q = (s F a (shallow input a none q.read)).fine c 0
+  bounded F work c input a q = (s F a (shallow input a None q.read)).fine c 0
 
   -- the walk of an input that is opened refuses with 5, 6 or 7 and nothing else
   walk_refuses : (F work c : ℕ) (input : Bytes) (a : A) {log : List Event} {r : Refusal} → open_input reader F work c input ≡ opened a → walk_of F a c 0 ≡ refused log r → WalkRefusal r.number
@@ -63,7 +63,7 @@ module _ {A : Type 0} (reader : Reader A) (walk_of : ℕ → A → M A) (bytes :
   call_runs F work c input buffer = go (open_input reader F work c input) (start reader F work c input)
     where
       delivers : {list : List Visit} (b : Bytes) (c' : ℕ) → All (Below (c + most)) list → c' ≤ c + most → (t : Bool)
-          → CallBounded c list (elim t as (λ _. Result) [ true ↦ (accepted_answer c' 0 (length b), written b buffer) | false ↦ refused_answer c buffer (placeless 8) ])
+          → CallBounded c list (elim t as (λ _. CallResult) [ true ↦ (accepted_answer c' 0 (length b), written b buffer) | false ↦ refused_answer c buffer (placeless 8) ])
       delivers b c' g h true = record { number = omega arith; counter = h; inside = λ e m. all_in g m }
       delivers b c' g h false = record { number = omega arith; counter = omega arith; inside = λ e m. all_in g m }
 
@@ -80,7 +80,7 @@ module _ {A : Type 0} (reader : Reader A) (walk_of : ℕ → A → M A) (bytes :
           → let w : Out A = elim o [ closed r ↦ refused [] r | opened a ↦ walk_of F a c 0 ] in CallBounded c (visits (events w)) (answered bytes c buffer w)
       go (closed r) q = record { number = omega arith; counter = omega arith; inside = λ e m. absurd (Memᴰ.not-nil m) }
       go (opened a) q =
-          let h : count a ≤ most_longest = omega (arith, few a, ap length (back input a none q.read)) in
+          let h : count a ≤ most_longest = omega (arith, few a, ap length (back input a None q.read)) in
           walked (count a) _ (omega (arith, most_draws, dbl_mono level_limit (count a) most_longest h)) (walk_of F a c 0) (bounded F work c input a q)
 
 module _ (F work c : ℕ) (input buffer : Bytes) where

@@ -20,7 +20,6 @@ use Rattle.records.specs.Valid.{BodyFields, BodiesFields, TailFields, lambda_dep
 use Rattle.records.specs.Views.{SeesCall}
 use Rattle.records.specs.declared.CallView.{CallView}
 use Rattle.records.specs.declared.Step.{Step}
-use Rattle.records.specs.declared.Step.TheVariants.{Refused}
 use Rattle.records.specs.declared.Zone.{Zone}
 use Rattle.walk.specs.Arena.{MapAt, outcome}
 use Rattle.walk.specs.Bodyforms.{call_tail, walk}
@@ -30,7 +29,6 @@ use Rattle.walk.specs.Room.{room}
 use Rattle.walk.specs.Steps.{M, ◌>>=◌, ret, step, body_size}
 use Rattle.walk.specs.Walking.{rule, IsCall, Fine, BodyReady, Walks, Leads, Finishes}
 use Rattle.walk.specs.declared.Piece.{Piece}
-use Rattle.walk.specs.declared.Piece.TheVariants.{Done as Took, Refused as Stopped}
 use Rattle.walk.specs.declared.Task.{Task}
 use Rattle.walk.proofs.CallRuns.{tail_then, call_rule}
 use Rattle.walk.proofs.Limits.{runs_each_body, runs_in_elements, runs_walk}
@@ -41,6 +39,9 @@ use Rattle.walk.proofs.Sizes.{positive, dbl_add}
 use Rattle.walk.proofs.TailLaws.{tail_some, tail_needs}
 use Rattle.walk.proofs.Unique.{unique_fine, tells_of}
 use Rattle.walk.proofs.Wholes.{from_length, whole_frame, whole_leads, map_from, Led, took, halted, finished_gives}
+use Rattle.std.specs.declared.result.Result.{Result}
+use Rattle.std.specs.declared.result.Result.TheVariants.{Err}
+use Rattle.walk.specs.RuleAnswers.{piece_of}
 
 -- elements and tail one level down
 each_fine : (F d : ℕ) (z : Zone) (bs : Bodies) → BodiesNoMod z bs → BodiesFields bs → bodies_depth bs ≤ level_limit → bodies_lambda_depth bs ≤ lambda_limit → bodies_depth bs ≤ d → length (bodies_bytes bs) ≤ F → EachFine F d bs
@@ -214,7 +215,7 @@ module _ {mem : Bytes} {t : Task} {v : CallView} {owning : Bool} (x : SeesCall m
         }
 
     -- the elements are answered
-    module _ {y : Bytes} {r : Piece} (s : WalksElements owning (from a v.first) y v.count task r) where
+    module _ {y : Bytes} {r : Result Piece Refusal} (s : WalksElements owning (from a v.first) y v.count task r) where
       abbrev middle : Bytes
       middle = rejoin a v.first y
 
@@ -244,13 +245,13 @@ module _ {mem : Bytes} {t : Task} {v : CallView} {owning : Bool} (x : SeesCall m
           ap (λ (b : Body). outcome (rule t.f owning t.depth p.m b t.counter 0)) here.is
           ∙ call_rule t.f owning t.depth p.m here.l here.bs here.u t.counter levels
 
-      stops : {new : Bytes} (q : Refusal) → SameOutside mem new t.free (length mem - t.map) → outcome (run t.counter 0) ≡ refuses q → Walks IsCall owning mem new t (Refused q)
+      stops : {new : Bytes} (q : Refusal) → SameOutside mem new t.free (length mem - t.map) → outcome (run t.counter 0) ≡ refuses q → Walks IsCall owning mem new t (Err q)
       stops q f e = tells_of unique_fine p f (refused q (as_rule ∙ step_refuses t.f body_size run t.counter 0 e) refl)
 
-      pub elements_refused : (q : Refusal) → r ≡ Stopped q → Walks IsCall owning mem middle t (Refused q)
+      pub elements_refused : (q : Refusal) → r ≡ Err q → Walks IsCall owning mem middle t (Err q)
       elements_refused q e = stops q middle_frame (halted q e told after_elements)
 
-      module _ (i j n c : ℕ) (e : r ≡ Took i j n c) where
+      module _ (i j n c : ℕ) (e : r ≡ piece_of i j n c) where
         half : Led bodies_bytes (MadeBodies t.f v.count) t.f middle (t.free + v.first) (length (bodies_bytes here.bs)) (every t.f owning (t.depth - 1) p.m 0 here.bs) t.counter 0 i j n c
         half = took i j n c e told
 
@@ -258,7 +259,7 @@ module _ {mem : Bytes} {t : Task} {v : CallView} {owning : Bool} (x : SeesCall m
         call_short = (omega (arith, first_short), omega (arith, half.wrote, half.has.short))
 
         abbrev task₂ : Task
-        task₂ = record { free = t.free + v.first + j - (v.first + i); map = t.map; f = t.f; depth = t.depth - 1; counter = c }
+        task₂ = record { free = t.free + (v.first + j) - (v.first + i); map = t.map; f = t.f; depth = t.depth - 1; counter = c }
 
         tail_wide : t.free + v.first + j + tail_room t.f (t.depth - 1) here.u + t.map ≤ length mem
         tail_wide =
@@ -304,33 +305,33 @@ module _ {mem : Bytes} {t : Task} {v : CallView} {owning : Bool} (x : SeesCall m
               held = half.within;
             }
 
-        module _ {z : Bytes} {r₂ : Piece} (s₂ : WalksTail owning (from middle (v.first + i)) z n task₂ r₂) where
+        module _ {z : Bytes} {r₂ : Result Piece Refusal} (s₂ : WalksTail owning (from middle (v.first + i)) z n task₂ r₂) where
           abbrev end : Bytes
           end = rejoin middle (v.first + i) z
 
-          tail_fits : v.first + i + (t.free + v.first + j - (v.first + i)) + t.map ≤ length middle
+          tail_fits : v.first + i + task₂.free + t.map ≤ length middle
           tail_fits = omega (arith, tail_starts, some_wide, middle_frame.size)
 
           tail_frame : SameOutside middle end (t.free + v.first + j) (length middle - t.map)
           tail_frame =
               same_wider (t.free + v.first + j) (length middle - t.map) (omega (arith, tail_starts)) (omega arith)
-              (whole_frame middle (v.first + i) (t.free + v.first + j - (v.first + i)) t.map tail_fits s₂.frame)
+              (whole_frame middle (v.first + i) task₂.free t.map tail_fits s₂.frame)
 
           end_frame : SameOutside mem end t.free (length mem - t.map)
           end_frame = let q = middle_frame.size in same_then t.free (length mem - t.map) (omega arith) (omega arith) (omega arith) (omega arith) middle_frame tail_frame
 
           tail_told : Leads tail_bytes (MadeTail t.f) t.f end (t.free + v.first + j) (length (tail_bytes here.u)) (call_tail t.f (rule t.f owning (t.depth - 1) p.m) here.u) c n r₂
           tail_told =
-              whole_leads middle (v.first + i) (t.free + v.first + j - (v.first + i)) t.map tail_fits s₂.frame (t.free + v.first + j) (omega (arith, tail_starts))
+              whole_leads middle (v.first + i) task₂.free t.map tail_fits s₂.frame (t.free + v.first + j) (omega (arith, tail_starts))
               (s₂.says p.m tail_map here.u (into last) (omega (arith, tail_low)) here.fine)
 
           abbrev as_call : Tail → M Body
           as_call u = ret (BC here.l half.u u)
 
-          pub tail_refused : (q : Refusal) → r₂ ≡ Stopped q → Walks IsCall owning mem end t (Refused q)
+          pub tail_refused : (q : Refusal) → r₂ ≡ Err q → Walks IsCall owning mem end t (Err q)
           tail_refused q e₂ = stops q end_frame (half.goes_on after_elements ∙ halted q e₂ tail_told as_call)
 
-          module _ (g h o d : ℕ) (e₂ : r₂ ≡ Took g h o d) where
+          module _ (g h o d : ℕ) (e₂ : r₂ ≡ piece_of g h o d) where
             rest : Led tail_bytes (MadeTail t.f) t.f end (t.free + v.first + j) (length (tail_bytes here.u)) (call_tail t.f (rule t.f owning (t.depth - 1) p.m) here.u) c n g h o d
             rest = took g h o d e₂ tail_told
 
@@ -374,7 +375,7 @@ module _ {mem : Bytes} {t : Task} {v : CallView} {owning : Bool} (x : SeesCall m
                 let a₄ = at_place (t.free + length head_bytes) (omega arith) (at_join (bodies_bytes half.u) (tail_bytes rest.u) a₂ a₃) in
                 subst (At end t.free) (sym bytes) (at_join head_bytes (bodies_bytes half.u ++ tail_bytes rest.u) a₁ a₄)
 
-            pub call_finished : {r₃ : Step} → Finishes (v.first + i + g) (v.first + j + h) t.f d r₃ → Walks IsCall owning mem end t r₃
+            pub call_finished : {r₃ : Result Step Refusal} → Finishes (v.first + i + g) (v.first + j + h) t.f d r₃ → Walks IsCall owning mem end t r₃
             call_finished {r₃} fin =
                 tells_of unique_fine p end_frame
                 (subst (λ (a : Outcome Body). Gives body_bytes end t.free (length (body_bytes p.tree)) a r₃) (sym as_rule)

@@ -17,7 +17,6 @@ use Rattle.records.specs.Limits.{cons_limit, most_longest}
 use Rattle.records.specs.Records.{Sexp, Body, BF, sexp_bytes, body_bytes}
 use Rattle.records.specs.Views.{lambda_head}
 use Rattle.records.specs.declared.Step.{Step}
-use Rattle.records.specs.declared.Step.TheVariants.{Done, Refused}
 use Rattle.records.proofs.StepAnswers.{unmade}
 use Rattle.walk.specs.Arena.{MapAt, Asks, Held, Substitutes, fitting, outcome}
 use Rattle.walk.specs.Bodyforms.{walk, args_then_in}
@@ -28,7 +27,6 @@ use Rattle.walk.specs.Room.{room}
 use Rattle.walk.specs.Steps.{M, over_long, ◌>>=◌, ret, step, body_size}
 use Rattle.walk.specs.Walking.{from_sum, AnyBody, BothReady, WalksBoth, Leads, Finishes}
 use Rattle.walk.specs.declared.Piece.{Piece}
-use Rattle.walk.specs.declared.Piece.TheVariants.{Done as Took, Refused as Stopped}
 use Rattle.walk.specs.declared.Task.{Task}
 use Rattle.walk.proofs.Fits.{Given, given, refused_long}
 use Rattle.walk.proofs.OnParts.{from, rejoin, asks_part, part_frame, part_gives}
@@ -37,6 +35,10 @@ use Rattle.walk.proofs.RunLaws.{step_refuses}
 use Rattle.walk.proofs.StepLaws.{substitute_gives, substitute_over}
 use Rattle.walk.proofs.Wholes.{from_length, whole_frame, whole_leads, map_from, Led, took, halted, finished_gives}
 use Rattle.walk.proofs.LambdaParts.{FineParts, PartsAt, fine_parts, lambda_size, parts_at, parts_join}
+use Rattle.std.specs.declared.result.Result.{Result}
+use Rattle.std.specs.declared.result.Result.TheVariants.{Err}
+use Rattle.walk.specs.RuleAnswers.{piece_of}
+use Rattle.records.specs.StepAnswer.{step_of}
 
 -- the run from the captures on
 module _ (F n : ℕ) (m : NameMap) (k : Captured) (c x : ℕ) where
@@ -80,7 +82,7 @@ setting p = record { good = p.good; there = p.there; below = p.below; map = p.ma
 
 -- the tasks of the capture args and of the body
 abbrev pub capture_args_task : Task → ℕ → ℕ → Task
-capture_args_task t at x = record { free = t.free + at - at; map = t.map; f = t.f - x; depth = cons_limit; counter = t.counter }
+capture_args_task t at x = record { free = t.free; map = t.map; f = t.f - x; depth = cons_limit; counter = t.counter }
 
 abbrev pub both_task : Task → ℕ → ℕ → ℕ → ℕ → ℕ → ℕ → Task
 both_task t at args body x w c = record { free = t.free + at + w + x + (body - args) - body; map = t.map; f = t.f; depth = t.depth - 1; counter = c }
@@ -136,11 +138,11 @@ module _ {mem : Bytes} {at args body x : ℕ} {t : Task} {k : Captured} {m : Nam
       asks_part at k.capture_args (record { fields = fine.capture_args.0; conses = fine.capture_args.1 }) capture_args_here (omega arith) h.map (omega arith)
 
   -- the capture args are made
-  module _ {y : Bytes} {r : Step} (s : Substitutes (rename_in_cons false) (from mem at) y (capture_args_task t at x) r) where
+  module _ {y : Bytes} {r : Result Step Refusal} (s : Substitutes (rename_in_cons false) (from mem at) y (capture_args_task t at x) r) where
     abbrev one : Bytes
     one = rejoin mem at y
 
-    fit_one : at + (t.free + at - at) + (t.f - x) + t.map ≤ length mem
+    fit_one : at + t.free + (t.f - x) + t.map ≤ length mem
     fit_one = let w = widths in omega arith
 
     one_frame : SameOutside mem one (t.free + at) (t.free + at + t.f)
@@ -155,19 +157,23 @@ module _ {mem : Bytes} {at args body x : ℕ} {t : Task} {k : Captured} {m : Nam
     abbrev whole_run : Outcome Body
     whole_run = outcome (step t.f body_size (from_sum x (after_captures t.f (walk t.f (t.depth - 1)) m k)) t.counter 0)
 
-    capture_args_refused : (q : Refusal) → r ≡ Refused q → whole_run ≡ refuses q
+    capture_args_refused : (q : Refusal) → r ≡ Err q → whole_run ≡ refuses q
     capture_args_refused q e =
         let w = widths in
         let z = refused_long sexp_bytes (t.f - x) t.counter by_map q (unmade q e capture_args_give) in
         over_capture_args t.f (t.depth - 1) m k t.counter x (omega (arith, z.long)) ∙ ap refuses (sym z.is)
 
     -- and fit
-    module _ (i w c : ℕ) (e : r ≡ Done i w c) where
+    module _ (i w c : ℕ) (e : r ≡ step_of i w c) where
       capture_args_made : Given sexp_bytes one (t.free + at) (length (sexp_bytes k.capture_args)) (t.f - x) t.counter by_map i w c
       capture_args_made = given (t.f - x) t.counter by_map i w c e capture_args_give
 
       pub made_fits : w + x ≤ t.f
       made_fits = let z = widths in omega (arith, capture_args_made.wrote, capture_args_made.short)
+
+      -- what goes before the body
+      pub before_fits : (args ≤ body) × (body ≤ t.free) × (t.free + at + w + x + (body - args) ≤ length mem)
+      before_fits = let z = widths in (omega (arith, z.body_at), omega (arith, z.below), omega (arith, made_fits, z.args_at, z.body_at, z.short, z.room))
 
       captures_here : At one (t.free + at + t.f) (body_bytes k.made)
       captures_here = at_above one_frame h.good.out (omega arith)
@@ -246,7 +252,7 @@ module _ {mem : Bytes} {at args body x : ℕ} {t : Task} {k : Captured} {m : Nam
               }
 
           -- both rules for the body
-          module _ {v : Bytes} {r₂ : Piece} (s₂ : WalksBoth (from three body) v (w + x) (both_task t at args body x w c) r₂) where
+          module _ {v : Bytes} {r₂ : Result Piece Refusal} (s₂ : WalksBoth (from three body) v (w + x) (both_task t at args body x w c) r₂) where
             abbrev four : Bytes
             four = rejoin three body v
 
@@ -272,10 +278,10 @@ module _ {mem : Bytes} {at args body x : ℕ} {t : Task} {k : Captured} {m : Nam
             sum_is : w + x ≡ x + length (sexp_bytes by_map)
             sum_is = omega (arith, capture_args_made.wrote)
 
-            body_refused : (q : Refusal) → r₂ ≡ Stopped q → whole_run ≡ refuses q
+            body_refused : (q : Refusal) → r₂ ≡ Err q → whole_run ≡ refuses q
             body_refused q e₂ = body_refuses t.f (t.depth - 1) m k t.counter x (w + x) sum_is made_fits (halted q e₂ body_leads)
 
-            module _ (j len sum d : ℕ) (e₂ : r₂ ≡ Took j len sum d) where
+            module _ (j len sum d : ℕ) (e₂ : r₂ ≡ piece_of j len sum d) where
               body_led : Led body_bytes AnyBody t.f four upto (length (body_bytes k.body)) (args_then_in t.f (walk t.f (t.depth - 1)) m k.body) t.counter (w + x) j len sum d
               body_led = took j len sum d e₂ body_leads
 
@@ -295,8 +301,8 @@ module _ {mem : Bytes} {at args body x : ℕ} {t : Task} {k : Captured} {m : Nam
                     body_led.wrote,
                   )
 
-              pub sums : (body + j ≤ t.free) × (upto + len ≤ length four)
-              sums = let z = widths in (omega (arith, body_led.read, z.below), omega (arith, body_led.wrote, body_led.out.fits))
+              pub sums : (body + j ≤ t.free) × (upto + len ≤ length mem)
+              sums = let z = widths in (omega (arith, body_led.read, z.below), omega (arith, body_led.wrote, body_led.out.fits, all_frame.size))
 
               below_four : {p : ℕ} {bs : Bytes} → At three p bs → p + length bs ≤ upto → At four p bs
               below_four a le = let z = widths in at_below four_frame a (omega (arith, z.below))
@@ -323,7 +329,7 @@ module _ {mem : Bytes} {at args body x : ℕ} {t : Task} {k : Captured} {m : Nam
                         body_led.out;
                   }
 
-              result_gives : {r : Step} → Finishes (body + j) (at + w + x + (body - args) + len) t.f d r → Gives body_bytes four t.free (length (lambda_bytes k)) whole_run r
+              result_gives : {r : Result Step Refusal} → Finishes (body + j) (at + w + x + (body - args) + len) t.f d r → Gives body_bytes four t.free (length (lambda_bytes k)) whole_run r
               result_gives f =
                   let z = widths in
                   finished_gives (from_sum x (after_captures t.f (walk t.f (t.depth - 1)) m k)) t.counter f
@@ -336,9 +342,9 @@ module _ {mem : Bytes} {at args body x : ℕ} {t : Task} (p : CapturedReady mem 
   setting_of : (m : NameMap) → MapAt mem t.map m → (k : Captured) → At mem 0 (lambda_bytes k) → length (lambda_bytes k) ≤ t.free → FineCaptured mem at args body x t k → Setting mem at args body x t k m
   setting_of m map k there below good = record { good = good; there = there; below = below; map = map; fits = p.room }
 
-  module _ {y : Bytes} {r : Step} (s : Substitutes (rename_in_cons false) (from mem at) y (capture_args_task t at x) r) where
+  module _ {y : Bytes} {r : Result Step Refusal} (s : Substitutes (rename_in_cons false) (from mem at) y (capture_args_task t at x) r) where
     -- the capture args are too long
-    pub captured_refused : (q : Refusal) → r ≡ Refused q → WalksCaptured mem (rejoin mem at y) at args body x t (Refused q)
+    pub captured_refused : (q : Refusal) → r ≡ Err q → WalksCaptured mem (rejoin mem at y) at args body x t (Err q)
     captured_refused q e =
         let z = widths (setting p) in
         record {
@@ -346,10 +352,10 @@ module _ {mem : Bytes} {at args body x : ℕ} {t : Task} (p : CapturedReady mem 
           says = λ m map k there below good. refused q (capture_args_refused (setting_of m map k there below good) s q e) refl;
         }
 
-    module _ (i w c : ℕ) (e : r ≡ Done i w c) {two three : Bytes} (f₁ : Filled (rejoin mem at y) two (t.free + at + w) (drop (t.free + at + t.f) (rejoin mem at y)) x)
-        (f₂ : Filled two three (t.free + at + w + x) (drop args two) (body - args)) {v : Bytes} {r₂ : Piece} (s₂ : WalksBoth (from three body) v (w + x) (both_task t at args body x w c) r₂) where
+    module _ (i w c : ℕ) (e : r ≡ step_of i w c) {two three : Bytes} (f₁ : Filled (rejoin mem at y) two (t.free + at + w) (drop (t.free + at + t.f) (rejoin mem at y)) x)
+        (f₂ : Filled two three (t.free + at + w + x) (drop args two) (body - args)) {v : Bytes} {r₂ : Result Piece Refusal} (s₂ : WalksBoth (from three body) v (w + x) (both_task t at args body x w c) r₂) where
       -- the body is refused
-      pub captured_stopped : (q : Refusal) → r₂ ≡ Stopped q → WalksCaptured mem (rejoin three body v) at args body x t (Refused q)
+      pub captured_stopped : (q : Refusal) → r₂ ≡ Err q → WalksCaptured mem (rejoin three body v) at args body x t (Err q)
       captured_stopped q e₂ =
           record {
             frame = all_frame (setting p) s i w c e f₁ f₂ s₂;
@@ -357,7 +363,7 @@ module _ {mem : Bytes} {at args body x : ℕ} {t : Task} (p : CapturedReady mem 
           }
 
       -- the record is finished
-      pub captured_done : (j len sum d : ℕ) → r₂ ≡ Took j len sum d → {a : Step} → Finishes (body + j) (at + w + x + (body - args) + len) t.f d a → WalksCaptured mem (rejoin three body v) at args body x t a
+      pub captured_done : (j len sum d : ℕ) → r₂ ≡ piece_of j len sum d → {a : Result Step Refusal} → Finishes (body + j) (at + w + x + (body - args) + len) t.f d a → WalksCaptured mem (rejoin three body v) at args body x t a
       captured_done j len sum d e₂ f =
           record {
             frame = all_frame (setting p) s i w c e f₁ f₂ s₂;

@@ -9,7 +9,7 @@ use lib.ListN.{length, replicate, take}
 use Rattle.names.specs.Names.{Bytes, ascii}
 use Rattle.records.specs.Records.{Loc, Sexp, SN, SC, SI, SA, Kind, Parallel, Sequential, Assign, Name, Complex, Body, BL, BV, BC, BF, no_tail, Binding, BB, Helper, HC, HM, HD, HN, Form, CF, to_bodies, to_bindings, to_helpers, body_bytes, helper_bytes, form_bytes}
 use Rattle.walk.specs.Calls.{computing_all, whole_call, children_call, helper_call}
-use Rattle.names.specs.CallAnswer.{Result, name_call}
+use Rattle.names.specs.CallAnswer.{CallResult, name_call}
 use Rattle.ordering.specs.OrderCall.{order_call}
 
 -- a call, its counter and its input; those in -in have F and the length of the buffer first
@@ -21,7 +21,7 @@ pub data Call : Type 0 where
 abbrev pub room : ℕ → Bytes
 room n = replicate n 0
 
-abbrev pub answer : Call → Result
+abbrev pub answer : Call → CallResult
 answer (name c n) = name_call n c (room 1024)
 answer (order c r) = order_call 1024 262144 c r (room 1024)
 answer (whole c r) = whole_call 1024 262144 c r (room 1024)
@@ -35,7 +35,7 @@ answer (single_in F n c r) = helper_call F 262144 c r (room n)
 abbrev pub Seen : Type 0
 Seen = ℕ × ℕ × ℕ × Bytes
 
-abbrev pub seen : Result → Seen
+abbrev pub seen : CallResult → Seen
 seen r = (r.0.refusal.number, r.0.refusal.place.start, r.0.counter, take r.0.len r.1)
 
 abbrev pub accepted : ℕ → Bytes → Seen

@@ -11,14 +11,12 @@ use Rattle.names.specs.Names.{Bytes}
 use Rattle.names.specs.declared.Refusal.{Refusal}
 use Rattle.records.specs.StepAnswer.{gives, refuses, Gives}
 use Rattle.records.specs.declared.Step.{Step}
-use Rattle.records.specs.declared.Step.TheVariants.{Done, Refused}
 use Rattle.records.proofs.StepAnswers.{Made, made, unmade}
 use Rattle.walk.specs.Arena.{outcome}
 use Rattle.walk.specs.FormWalks.{TreeOf, tree_bytes, tree_size, tree_rule, TreeReady, WalksTree, by_args, child_by, ComesOut, came, stayed, new_sum, Sumable, AddsResult, ChildReady, WalksChild}
 use Rattle.walk.specs.Steps.{DoneWith, RefusedWith, over_long}
 use Rattle.walk.specs.declared.Child.{Child}
 use Rattle.walk.specs.declared.Piece.{Piece}
-use Rattle.walk.specs.declared.Piece.TheVariants.{Refused as Stopped}
 use Rattle.walk.specs.declared.Task.{Task}
 use Rattle.walk.specs.declared.Way.{Way}
 use Rattle.walk.specs.declared.Way.TheVariants.{Own, In, Further}
@@ -26,6 +24,9 @@ use Rattle.walk.proofs.DoneLaws.{child_done, child_long, child_stops, further_do
 use Rattle.walk.proofs.TreeLaws.{unique_tree, neutral_tree, tree_within, tree_length, tree_made}
 use Rattle.walk.proofs.Unique.{tells_of}
 use Rattle.walk.proofs.Wholes.{took_is}
+use Rattle.std.specs.declared.result.Result.{Result}
+use Rattle.std.specs.declared.result.Result.TheVariants.{Err}
+use Rattle.records.specs.StepAnswer.{step_of}
 
 -- a use of a rule, where its kind and which rule it is are known
 module _ {k : Child} {owning : Bool} {old : Bytes} {t : Task} (j : Child) (b : Bool) where
@@ -33,7 +34,7 @@ module _ {k : Child} {owning : Bool} {old : Bytes} {t : Task} (j : Child) (b : B
   ready_at e f p = subst (λ (o : Bool). TreeReady j o old t) f (subst (λ (i : Child). TreeReady i owning old t) e p)
 
   -- and what is answered of it
-  pub walks_at : {new : Bytes} {r : Step} → k ≡ j → owning ≡ b → WalksTree j b old new t r → WalksTree k owning old new t r
+  pub walks_at : {new : Bytes} {r : Result Step Refusal} → k ≡ j → owning ≡ b → WalksTree j b old new t r → WalksTree k owning old new t r
   walks_at {new} {r} e f s = subst (λ (i : Child). WalksTree i owning old new t r) (sym e) (subst (λ (o : Bool). WalksTree j o old new t r) (sym f) s)
 
 -- the run of a child
@@ -66,7 +67,7 @@ module _ {k : Child} {way : Way} {old : Bytes} {sum : ℕ} {t : Task} (p : Child
   pub child_asks : TreeReady k owning old t
   child_asks = subst (λ (o : Bool). TreeReady k o old t) (sym is) p.ready
 
-  module _ {new : Bytes} {r : Step} (s : WalksTree k owning old new t r) where
+  module _ {new : Bytes} {r : Result Step Refusal} (s : WalksTree k owning old new t r) where
     -- what its rule answers
     walked : WalksTree k (by_args way) old new t r
     walked = subst (λ (o : Bool). WalksTree k o old new t r) is s
@@ -76,15 +77,15 @@ module _ {k : Child} {way : Way} {old : Bytes} {sum : ℕ} {t : Task} (p : Child
     told = walked.says p.ready.m p.ready.map p.ready.tree p.ready.there p.ready.below p.ready.good
 
     -- what comes of that tree is the child's answer
-    tells : {z : Piece} → ComesOut (tree_bytes k) t.f new t.free (length (tree_bytes k p.ready.tree)) (child_by t.f k way t.depth p.ready.m p.ready.tree) t.counter sum z
+    tells : {z : Result Piece Refusal} → ComesOut (tree_bytes k) t.f new t.free (length (tree_bytes k p.ready.tree)) (child_by t.f k way t.depth p.ready.m p.ready.tree) t.counter sum z
         → WalksChild k way old new sum t z
     tells x = tells_of (unique_tree k t.f t.depth) p.ready walked.frame x
 
     -- its rule refuses
-    pub child_refused : (q : Refusal) → r ≡ Refused q → WalksChild k way old new sum t (Stopped q)
+    pub child_refused : (q : Refusal) → r ≡ Err q → WalksChild k way old new sum t (Err q)
     child_refused q e = tells (stayed q (way_stops t.f k t.depth p.ready.m p.ready.tree t.counter sum way (unmade q e told)) refl)
 
-    module _ (i w d : ℕ) (e : r ≡ Done i w d) where
+    module _ (i w d : ℕ) (e : r ≡ step_of i w d) where
       -- what its rule gives
       known : Made (tree_bytes k) new t.free (length (tree_bytes k p.ready.tree)) (outcome (tree_rule t.f k (by_args way) t.depth p.ready.m p.ready.tree t.counter 0)) i w d
       known = made i w d e told
@@ -100,7 +101,7 @@ module _ {k : Child} {way : Way} {old : Bytes} {sum : ℕ} {t : Task} (p : Child
       child_sumable = record { taken = λ z. omega (arith, known.read, p.taken z); small = omega (arith, short, p.held, p.ready.longest) }
 
       -- its result in the sum
-      pub child_counted : {z : Piece} → AddsResult way sum i w t.f d z → WalksChild k way old new sum t z
+      pub child_counted : {z : Result Piece Refusal} → AddsResult way sum i w t.f d z → WalksChild k way old new sum t z
       child_counted {z} n = tells (go (leb (new_sum way sum i w) t.f) refl)
         where
           same : new_sum way sum (length (tree_bytes k p.ready.tree)) (length (tree_bytes k known.u)) ≡ new_sum way sum i w

@@ -9,7 +9,7 @@ use native.Mathlib.Omega.{arith}
 use lib.Dec.{leb}
 use lib.ListN.{length}
 use Rattle.names.specs.Names.{Bytes}
-use Rattle.names.specs.CallAnswer.{Result, accepted_answer, refused_answer, delivered, written}
+use Rattle.names.specs.CallAnswer.{CallResult, accepted_answer, refused_answer, delivered, written}
 use Rattle.names.specs.Refusals.{place_at, placeless}
 use Rattle.names.specs.declared.Refusal.{Refusal}
 use Rattle.records.specs.Records.{loc_number, form_bytes, helper_bytes}
@@ -87,7 +87,7 @@ module _ (F : ℕ) where
   of_delivered c buffer {list} bs c' a = go (leb (length bs) (length buffer))
     where
       go : (b : Bool)
-          → AssignsOrdered F list (elim b as (λ _. Result) [ true ↦ (accepted_answer c' 0 (length bs), written bs buffer) | false ↦ refused_answer c buffer (placeless 8) ]).0.refusal
+          → AssignsOrdered F list (elim b as (λ _. CallResult) [ true ↦ (accepted_answer c' 0 (length bs), written bs buffer) | false ↦ refused_answer c buffer (placeless 8) ]).0.refusal
       go true = of_done a (omega arith) (λ h _. absurd (omega arith))
       go false = of_done a (omega arith) (λ _ h. absurd (omega arith))
 

@@ -18,7 +18,6 @@ use Rattle.records.specs.Records.{head_width, mark_width, Loc, Parallel, Sequent
 use Rattle.records.specs.Valid.{ValidLoc, BodyFields, BindingFields, lambda_depth, ValidBody, IsLet}
 use Rattle.records.specs.declared.Family.TheVariants.{Binding as a_binding}
 use Rattle.records.specs.declared.Step.{Step}
-use Rattle.records.specs.declared.Step.TheVariants.{Done, Refused}
 use Rattle.records.proofs.StepAnswers.{made, unmade}
 use Rattle.records.specs.Lists.{joined, Each}
 use Rattle.records.specs.Parts.{Skips, family_part, ValidBinding}
@@ -33,6 +32,9 @@ use Rattle.walk.specs.declared.Task.{Task}
 use Rattle.walk.proofs.Fits.{Headed, done_is, whole, headed_refused, headed_done, read_wrote, fitting_long}
 use Rattle.walk.proofs.MapLaws.{map_after}
 use Rattle.walk.proofs.OnParts.{from, rejoin, asks_part, part_frame, part_gives}
+use Rattle.std.specs.declared.result.Result.{Result}
+use Rattle.std.specs.declared.result.Result.TheVariants.{Err}
+use Rattle.records.specs.StepAnswer.{step_of}
 
 -- the bytes of a let of one binding before its body, of its L and the binding's bytes
 abbrev let_bytes : Loc → Bytes → Bytes
@@ -83,7 +85,7 @@ body_left {mem} {left} {t} z p = go p.tree.0 p.good.many p.there p.below
     go [] e there below = record { tree = p.tree.1; good = p.good.body; there = there; below = below; m = p.m; map = p.map; room = p.room }
     go (y ∷ ys) e there below = absurd (omega arith)
 
-pub nests_none : {left : ℕ} {old new : Bytes} {t : Task} {r : Step} → left ≡ 0 → KeepsBody old new t r → Nests left old new t r
+pub nests_none : {left : ℕ} {old new : Bytes} {t : Task} {r : Result Step Refusal} → left ≡ 0 → KeepsBody old new t r → Nests left old new t r
 unfolding joined desugar_sequential_let_bindings
 nests_none {left} {old} {new} {t} {r} z k = record { frame = k.frame; says = λ m map x there below v. go m map x.0 x.1 there below v }
   where
@@ -157,7 +159,7 @@ module _ {mem : Bytes} {n left : ℕ} (sk : Skips (family_part a_binding) mem n)
   first_of : (x : Left) → ValidLeft left x → At mem 0 (left_bytes x) → First mem n x.0 x.1
   first_of x v there = first sk x.0 x.1 (omega (arith, v.many)) v.bindings there
 
-  pub nested_no_room : {t : Task} {r : Step} → r ≡ Refused over_long → t.f < let_head + n → Nests left mem mem t r
+  pub nested_no_room : {t : Task} {r : Result Step Refusal} → r ≡ Err over_long → t.f < let_head + n → Nests left mem mem t r
   nested_no_room {t} is lt =
       record {
         frame = same_refl;
@@ -194,7 +196,7 @@ module _ {mem : Bytes} {n left : ℕ} (sk : Skips (family_part a_binding) mem n)
           (map_after w.frame (omega (arith, p.room)) p.map) fit
 
       -- the others are answered
-      module _ {y : Bytes} {r : Step} (s : Nests (left - 1) (from a n) y rest_task r) where
+      module _ {y : Bytes} {r : Result Step Refusal} (s : Nests (left - 1) (from a n) y rest_task r) where
         abbrev end : Bytes
         end = rejoin a n y
 
@@ -219,31 +221,31 @@ module _ {mem : Bytes} {n left : ℕ} (sk : Skips (family_part a_binding) mem n)
               at_below rest_frame (filled_at t.free w (omega (arith, p.room)) (at_whole (let_of mem n)) (omega arith) (omega arith)) (omega arith)
 
           -- what is read and written
-          sums : (i j d : ℕ) → r ≡ Done i j d → (n + i ≡ length (left_bytes x)) × (let_head + n + j ≤ t.f)
+          sums : (i j d : ℕ) → r ≡ step_of i j d → (n + i ≡ length (left_bytes x)) × (let_head + n + j ≤ t.f)
           sums i j d q =
               let g = read_wrote (k.parts inner) t.free t.f t.counter le rest_gives i j d q in
               (omega (arith, g.0, k.size), g.1)
 
-        pub nested_sums : (i j d : ℕ) → r ≡ Done i j d → (n + i ≤ t.free) × (let_head + n + j ≤ t.f)
+        pub nested_sums : (i j d : ℕ) → r ≡ step_of i j d → (n + i ≤ t.free) × (let_head + n + j ≤ t.f)
         nested_sums i j d q = let k = sums p.map p.good here p.below i j d q in (omega (arith, k.0, p.below), k.1)
 
-        pub nested_refused : (i : Refusal) → r ≡ Refused i → Nests left mem end t (Refused i)
+        pub nested_refused : (i : Refusal) → r ≡ Err i → Nests left mem end t (Err i)
         nested_refused i q =
             record {
               frame = framed;
               says = λ m map x there below v.
                   let k = first_of x v there in
-                  subst (λ (d : Body). Gives body_bytes end t.free (length (left_bytes x)) (fitting body_bytes t.f t.counter d) (Refused i)) (sym k.is)
+                  subst (λ (d : Body). Gives body_bytes end t.free (length (left_bytes x)) (fitting body_bytes t.f t.counter d) (Err i)) (sym k.is)
                   (headed_refused (k.parts (inner map v k below)) t.free t.f t.counter le (rest_gives map v k below) i q);
             }
 
-        pub nested_done : (i j d : ℕ) → r ≡ Done i j d → Nests left mem end t (Done (n + i) (let_head + n + j) d)
+        pub nested_done : (i j d : ℕ) → r ≡ step_of i j d → Nests left mem end t (step_of (n + i) (let_head + n + j) d)
         nested_done i j d q =
             record {
               frame = framed;
               says = λ m map x there below v.
                   let k = first_of x v there in
-                  subst (λ (u : Body). Gives body_bytes end t.free (length (left_bytes x)) (fitting body_bytes t.f t.counter u) (Done (n + i) (let_head + n + j) d)) (sym k.is)
+                  subst (λ (u : Body). Gives body_bytes end t.free (length (left_bytes x)) (fitting body_bytes t.f t.counter u) (step_of (n + i) (let_head + n + j) d)) (sym k.is)
                   (headed_done (k.parts (inner map v k below)) t.free t.f t.counter le (rest_gives map v k below) i j d q (written map v k below)
                   (sums map v k below i j d q).0);
             }
@@ -298,7 +300,7 @@ module _ {mem : Bytes} {v : LetView} {t : Task} (x : SeesLet mem v) (p : Asks bo
   let_asks = let k = the_let in asks_part v.first k.x k.valid k.there (omega (arith, k.size, p.below)) p.map let_fit
 
   -- their answer, of the whole
-  module _ {y : Bytes} {r : Step} (s : Nests v.count (from mem v.first) y let_task r) where
+  module _ {y : Bytes} {r : Result Step Refusal} (s : Nests v.count (from mem v.first) y let_task r) where
     abbrev all : Bytes
     all = rejoin mem v.first y
 
@@ -311,14 +313,14 @@ module _ {mem : Bytes} {v : LetView} {t : Task} (x : SeesLet mem v) (p : Asks bo
         let l = let_low in
         rw k.is (part_gives v.first let_fit s t.free (omega arith) map k.x k.there (omega (arith, k.size)) k.valid)
 
-    pub let_refused : (k : Refusal) → r ≡ Refused k → Desugars mem all t (Refused k)
+    pub let_refused : (k : Refusal) → r ≡ Err k → Desugars mem all t (Err k)
     let_refused k e =
         record {
           frame = all_frame;
           says = λ m map b there below good. refused k (unmade k e (all_gives map (let_of_view x b good there) below)) refl;
         }
 
-    pub let_done : (i j d : ℕ) → r ≡ Done i j d → Desugars mem all t (Done (v.first + i) j d)
+    pub let_done : (i j d : ℕ) → r ≡ step_of i j d → Desugars mem all t (step_of (v.first + i) j d)
     let_done i j d e =
         record {
           frame = all_frame;
@@ -329,5 +331,5 @@ module _ {mem : Bytes} {v : LetView} {t : Task} (x : SeesLet mem v) (p : Asks bo
         }
 
     -- what is read
-    pub let_read : (i j d : ℕ) → r ≡ Done i j d → v.first + i ≤ t.free
+    pub let_read : (i j d : ℕ) → r ≡ step_of i j d → v.first + i ≤ t.free
     let_read i j d e = let z = made i j d e (all_gives p.map the_let p.below) in omega (arith, z.read, the_let.size, p.below)

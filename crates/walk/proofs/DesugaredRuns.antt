@@ -21,6 +21,8 @@ use Rattle.walk.specs.Walking.{AnyBody, BodyReady, Walks, count_of, let_needs, P
 use Rattle.walk.specs.declared.Task.{Task}
 use Rattle.walk.proofs.MapLaws.{no_map}
 use Rattle.walk.proofs.Results.{some_level, level_above, dbl_down, fine_as}
+use Rattle.std.specs.declared.result.Result.{Result}
+use Rattle.names.specs.declared.Refusal.{Refusal}
 
 -- what Own of a body alone is given
 abbrev pub level_down : Task → Task
@@ -56,7 +58,7 @@ unfolding rename_args_desugared desugar_sequential_let_bindings
 own_none F r [] b c x e = refl
 own_none F r (b ∷ bs) _ c x e = absurd (omega arith)
 
-module _ {mem new : Bytes} {t : Task} {r : Step} where
+module _ {mem new : Bytes} {t : Task} {r : Result Step Refusal} where
   -- its answer
   pub none_walks : (count : ℕ) → count ≡ 0 → NestedReady mem count t → Walks AnyBody true mem new (level_down t) r → WalksNested mem new count t r
   none_walks zero e p s =
@@ -117,7 +119,7 @@ module _ {mem : Bytes} {t : Task} where
         longest = p.longest;
       }
 
-module _ {mem new : Bytes} {t : Task} {r : Step} where
+module _ {mem new : Bytes} {t : Task} {r : Result Step Refusal} where
   -- its answer
   pub some_walks : (count : ℕ) → (count ≡ 0 → ⊥) → Walks (IsLet Parallel) true mem new t r → WalksNested mem new count t r
   some_walks zero e s = absurd (e refl)

@@ -24,6 +24,8 @@ use Rattle.walk.specs.declared.Task.{Task}
 use Rattle.walk.proofs.LeafLaws.{args_keeps, in_mod}
 use Rattle.walk.proofs.Results.{some_level, least_room, fine_as}
 use Rattle.walk.proofs.Unique.{unique_fine, tells_of}
+use Rattle.std.specs.declared.result.Result.{Result}
+use Rattle.names.specs.declared.Refusal.{Refusal}
 
 -- the mark that stands at the start
 abbrev pub mark : Bytes → ℕ
@@ -156,7 +158,7 @@ in_kept F (suc d) m (BF l w ca x a b) c le k = absurd k
 module _ {owning : Bool} {mem : Bytes} {t : Task} (p : BodyReady AnyBody owning mem t) where
   -- the body is of a kind
   module _ {Only : Body → Type 0} (only : Only p.tree) where
-    pub walks_as : {new : Bytes} {r : Step} → Walks Only owning mem new t r → Walks AnyBody owning mem new t r
+    pub walks_as : {new : Bytes} {r : Result Step Refusal} → Walks Only owning mem new t r → Walks AnyBody owning mem new t r
     walks_as w = tells_of unique_fine p w.frame (w.says p.m p.map p.tree p.there p.below (fine_as only p.good))
 
   -- it goes no level down
@@ -173,13 +175,13 @@ module _ {owning : Bool} {mem : Bytes} {t : Task} (p : BodyReady AnyBody owning 
   asks_kind only = asks_with (record { valid = p.good.valid; only = only })
 
   -- such a step's answer is that of the rule
-  leaf_walks : {Good : Body → Type 0} {f : NameMap → Body → Outcome Body} {new : Bytes} {r : Step} → Says body_bytes Good body_bytes f mem new t r → Good p.tree
+  leaf_walks : {Good : Body → Type 0} {f : NameMap → Body → Outcome Body} {new : Bytes} {r : Result Step Refusal} → Says body_bytes Good body_bytes f mem new t r → Good p.tree
       → f p.m p.tree ≡ outcome (rule t.f owning t.depth p.m p.tree t.counter 0) → Walks AnyBody owning mem new t r
   leaf_walks {new = new} {r} k g e =
       tells_of unique_fine p (same_wider t.free (length mem - t.map) (omega arith) (omega (arith, fits)) k.frame)
       (subst (λ (o : Outcome Body). Gives body_bytes new t.free (length (body_bytes p.tree)) o r) e (k.says p.m p.map p.tree p.there p.below g))
 
-module _ {mem new : Bytes} {t : Task} {r : Step} where
+module _ {mem new : Bytes} {t : Task} {r : Result Step Refusal} where
   -- Own keeps a record
   pub own_keeps : (p : BodyReady AnyBody true mem t) → IsKept p.tree → KeepsBody mem new t r → Walks AnyBody true mem new t r
   own_keeps p only k = leaf_walks p k p.good.valid (sym (own_kept t.f t.depth p.m p.tree t.counter (some_level p.good) only))
@@ -205,5 +207,5 @@ module _ {mem : Bytes} {t : Task} {owning : Bool} (flag : Bool) (e : owning ≡ 
   pub ready_for : BodyReady AnyBody owning mem t → BodyReady AnyBody flag mem t
   ready_for p = subst (λ (o : Bool). BodyReady AnyBody o mem t) e p
 
-  pub walks_for : {new : Bytes} {r : Step} → Walks AnyBody flag mem new t r → Walks AnyBody owning mem new t r
+  pub walks_for : {new : Bytes} {r : Result Step Refusal} → Walks AnyBody flag mem new t r → Walks AnyBody owning mem new t r
   walks_for {new} {r} w = subst (λ (o : Bool). Walks AnyBody o mem new t r) (sym e) w

@@ -13,10 +13,12 @@ use Rattle.names.specs.declared.Refusal.{Refusal}
 use Rattle.names.proofs.Places.{at_place, at_left, at_right, at_join}
 use Rattle.records.specs.StepAnswer.{Outcome, gives, refuses, Gives, gave, refused}
 use Rattle.records.specs.declared.Step.{Step}
-use Rattle.records.specs.declared.Step.TheVariants.{Done, Refused}
 use Rattle.records.proofs.StepAnswers.{made, unmade}
 use Rattle.walk.specs.Arena.{fitting}
 use Rattle.walk.specs.Steps.{over_long}
+use Rattle.std.specs.declared.result.Result.{Result}
+use Rattle.std.specs.declared.result.Result.TheVariants.{Err}
+use Rattle.records.specs.StepAnswer.{step_of}
 
 module _ {A : Type 0} (bytes : A → Bytes) (f c : ℕ) (u : A) where
   pub fitting_fits : length (bytes u) ≤ f → fitting bytes f c u ≡ gives u c
@@ -61,7 +63,7 @@ pub record Given {A : Type 0} (bytes : A → Bytes) (new : Bytes) (p size f c : 
   pub short : length (bytes u) ≤ f
   pub out : At new p (bytes u)
 
-pub given : {A : Type 0} {bytes : A → Bytes} {new : Bytes} {p size : ℕ} {r : Step} (f c : ℕ) (u : A) (i j d : ℕ) → r ≡ Done i j d
+pub given : {A : Type 0} {bytes : A → Bytes} {new : Bytes} {p size : ℕ} {r : Result Step Refusal} (f c : ℕ) (u : A) (i j d : ℕ) → r ≡ step_of i j d
     → Gives bytes new p size (fitting bytes f c u) r → Given bytes new p size f c u i j d
 given {A} {bytes} {new} {p} f c u i j d e x =
     let m = made i j d e x in
@@ -74,11 +76,11 @@ given {A} {bytes} {new} {p} f c u i j d e x =
       out = subst (λ (z : A). At new p (bytes z)) y.same_tree m.out;
     }
 
-pub done_is : {a b c x y z : ℕ} → a ≡ x → b ≡ y → c ≡ z → ◌≡◌ {A = Step} (Done a b c) (Done x y z)
+pub done_is : {a b c x y z : ℕ} → a ≡ x → b ≡ y → c ≡ z → ◌≡◌ {A = Result Step Refusal} (step_of a b c) (step_of x y z)
 done_is p q r = cc
 
 -- a tree in place of another one of the same bytes
-pub same_bytes : {A B : Type 0} (f : A → Bytes) (g : B → Bytes) {new : Bytes} {p size : ℕ} {r : Step} (F c : ℕ) (a : A) (b : B) → f a ≡ g b
+pub same_bytes : {A B : Type 0} (f : A → Bytes) (g : B → Bytes) {new : Bytes} {p size : ℕ} {r : Result Step Refusal} (F c : ℕ) (a : A) (b : B) → f a ≡ g b
     → Gives f new p size (fitting f F c a) r → Gives g new p size (fitting g F c b) r
 same_bytes f g {new} {p} F c a b e (gave u d i x h) =
     let y = fitted f F c a u d i in
@@ -106,17 +108,17 @@ module _ {A B : Type 0} {f : A → Bytes} {g : B → Bytes} {head : Bytes} {h : 
   rest_at {s} {p} a = at_place (p + h) (omega (arith, k.width)) (at_right head (f u) (subst (At s p) k.bytes a))
 
   -- what is answered of v where the answer of u is r
-  module _ (free F c : ℕ) {new : Bytes} {size : ℕ} {r : Step} (le : h ≤ F) (x : Gives f new (free + h) size (fitting f (F - h) c u) r) where
-    pub headed_refused : {n : ℕ} (i : Refusal) → r ≡ Refused i → Gives g new free n (fitting g F c v) (Refused i)
+  module _ (free F c : ℕ) {new : Bytes} {size : ℕ} {r : Result Step Refusal} (le : h ≤ F) (x : Gives f new (free + h) size (fitting f (F - h) c u) r) where
+    pub headed_refused : {n : ℕ} (i : Refusal) → r ≡ Err i → Gives g new free n (fitting g F c v) (Err i)
     headed_refused i e =
         let y = refused_long f (F - h) c u i (unmade i e x) in
         refused i (fitting_long g F c v (omega (arith, whole, y.long)) ∙ cc y.is) refl
 
     -- what was read and written of u
-    pub read_wrote : (i j d : ℕ) → r ≡ Done i j d → (i ≡ size) × (h + j ≤ F)
+    pub read_wrote : (i j d : ℕ) → r ≡ step_of i j d → (i ≡ size) × (h + j ≤ F)
     read_wrote i j d e = let g = given (F - h) c u i j d e x in (g.read, omega (arith, g.wrote, g.short))
 
-    pub headed_done : {n : ℕ} (i j d : ℕ) → r ≡ Done i j d → At new free head → {q : ℕ} → q ≡ n → Gives g new free n (fitting g F c v) (Done q (h + j) d)
+    pub headed_done : {n : ℕ} (i j d : ℕ) → r ≡ step_of i j d → At new free head → {q : ℕ} → q ≡ n → Gives g new free n (fitting g F c v) (step_of q (h + j) d)
     headed_done i j d e at q =
         let y = given (F - h) c u i j d e x in
         let o = at_place (free + length head) (omega (arith, k.width)) y.out in

@@ -28,6 +28,8 @@ use Rattle.walk.proofs.FormRuns.{args_helper_step, in_helper_step}
 use Rattle.walk.proofs.Opening.{way_of, by_tree, Keeping, Renewing}
 use Rattle.walk.proofs.StepLaws.{step_fits}
 use Rattle.walk.proofs.TreeLaws.{tree_level}
+use Rattle.std.specs.declared.result.Result.{Result}
+use Rattle.names.specs.declared.Refusal.{Refusal}
 
 -- the place of a record's mark among the marks of H records
 abbrev helper_index : Helper → ℕ
@@ -87,7 +89,7 @@ module _ {mem : Bytes} {k : ℕ} (mark : k ≡ mark_index (take mark_width (drop
     namespace_counted {v} e see = by_kind 3 (λ u. FineHelper t.f t.depth u → At mem 0 (helper_bytes u) → 1 ≤ v.first) e (λ l n r hs f at. see.counted l n r hs f.valid at) p.good p.there
 
   -- the others are kept
-  module _ {new : Bytes} {t : Task} {r : Step} (w : KeepsHelper mem new t r) where
+  module _ {new : Bytes} {t : Task} {r : Result Step Refusal} (w : KeepsHelper mem new t r) where
     kept_as : (owning : Bool) → ((m : NameMap) (u : Helper) → At mem 0 (helper_bytes u) → 1 ≤ t.depth → by_tree Helperform owning t m u ≡ fitting helper_bytes t.f t.counter u) → WalksTree Helperform owning mem new t r
     kept_as owning e =
         record {

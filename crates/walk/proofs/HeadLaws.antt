@@ -6,6 +6,7 @@ use native.Mathlib.Omega.{arith}
 use Prim.Native.Nat.{ℕ, ◌+◌, ◌-◌, ◌≤◌}
 use Prim.Native.String.{String}
 use lib.ListN.{length}
+use Rattle.std.specs.Prelude.{Option as Place, Some, None}
 use Rattle.names.specs.Maps.{NameMap}
 use Rattle.names.specs.Names.{Bytes, ascii}
 use Rattle.names.specs.Segments.{At}
@@ -148,25 +149,25 @@ record Tail (h u : Sexp) (x : ℕ) : Type 0 where
   ends : nilp z ≡ true
   place : x ≡ head_width + length (sexp_bytes h) + head_width
 
-module _ {s : Bytes} {x : ℕ} (l : Loc) (h u : Sexp) (fine : SexpFields (SC l h u)) (a : At s 0 (sexp_bytes (SC l h u))) where
-  no_tail : SeesOnlyOfTail s x → x ≡ 0 → only u ≡ none
-  no_tail o e = go (o.singles l h u fine a)
+module _ {s : Bytes} (l : Loc) (h u : Sexp) (fine : SexpFields (SC l h u)) (a : At s 0 (sexp_bytes (SC l h u))) where
+  no_tail : {o : Place ℕ} → SeesOnlyOfTail s o → o ≡ None → only u ≡ none
+  no_tail {o} k e = go (k.singles l h u fine a)
     where
-      go : OnlyOfTailAt h u x → only u ≡ none
+      go : OnlyOfTailAt h u o → only u ≡ none
       go (single_none q n) = n
-      go (single_one k y z i n p) = absurd (omega arith)
+      go (single_one k y z i n p) = absurd (cc)
 
-  tail : SeesOnlyOfTail s x → (x ≡ 0 → ⊥) → Tail h u x
-  tail o e = go (o.singles l h u fine a)
+  tail : {o : Place ℕ} {x : ℕ} → SeesOnlyOfTail s o → o ≡ Some x → Tail h u x
+  tail {o} {x} k e = go (k.singles l h u fine a)
     where
-      go : OnlyOfTailAt h u x → Tail h u x
-      go (single_none q n) = absurd (e q)
-      go (single_one k y z i n p) = record { k = k; y = y; z = z; is = i; ends = n; place = p }
+      go : OnlyOfTailAt h u o → Tail h u x
+      go (single_none q n) = absurd (cc)
+      go (single_one k y z i n p) = record { k = k; y = y; z = z; is = i; ends = n; place = cc }
 
   -- it goes on alone
-  lone : (rule : NameMap → Sexp → Sexp) (next : Quasi) (j : Tail h u x) → ((m : NameMap) → rule m (SC l h (SC j.k j.y j.z)) ≡ substitution next m j.y)
+  lone : {x : ℕ} (rule : NameMap → Sexp → Sexp) (next : Quasi) (j : Tail h u x) → ((m : NameMap) → rule m (SC l h (SC j.k j.y j.z)) ≡ substitution next m j.y)
       → OnlyElement rule next s (SC l h u) x
-  lone rule next j makes =
+  lone {x} rule next j makes =
       let P : Sexp → Type 0 = λ v. SexpFields (SC l h v) in
       let Q : Sexp → Type 0 = λ v. At s 0 (sexp_bytes (SC l h v)) in
       let i = element l h j.k j.y j.z (subst P j.is fine) (subst Q j.is a) in
@@ -186,16 +187,16 @@ module _ {s : Bytes} where
   plans_on x =
       record { pairs = λ l h u fine a. goes_on refl record { l = l; h = h; u = u; is = refl; makes = λ m. qq_on true m l h u (x l h u fine a) } }
 
-  module _ {n : ℕ} (x : Heads s "unquote" true) (o : SeesOnlyOfTail s n) where
-    pub plans_unquote_none : n ≡ 0 → PlansPair (rename_in_qq true) s Parts
+  module _ {r : Place ℕ} (x : Heads s "unquote" true) (o : SeesOnlyOfTail s r) where
+    pub plans_unquote_none : r ≡ None → PlansPair (rename_in_qq true) s Parts
     plans_unquote_none e =
         record {
           pairs = λ l h u fine a.
               goes_on refl record { l = l; h = h; u = u; is = refl; makes = λ m. qq_none true m l h u (x l h u fine a) (no_tail l h u fine a o e) };
         }
 
-    pub plans_unquote : {e : ℕ} → (n ≡ 0 → ⊥) → Skips fields_part s e → PlansPair (rename_in_qq true) s (Alone Outside n e)
-    plans_unquote d size =
+    pub plans_unquote : {n e : ℕ} → r ≡ Some n → Skips fields_part s e → PlansPair (rename_in_qq true) s (Alone Outside n e)
+    plans_unquote {n} d size =
         record {
           pairs = λ l h u fine a.
               let j = tail l h u fine a o d in
@@ -215,9 +216,9 @@ module _ (qq : Bool) {s : Bytes} where
             goes_on refl record { l = l; h = h; u = u; is = refl; makes = λ m. cons_on qq m l h u (x l h u fine a) (y l h u fine a) (z l h u fine a) };
       }
 
-  module _ {n e : ℕ} (x : Heads s "q" false) (o : SeesOnlyOfTail s n) (size : Skips fields_part s e) where
+  module _ {r : Place ℕ} {e : ℕ} (x : Heads s "q" false) (o : SeesOnlyOfTail s r) (size : Skips fields_part s e) where
     module _ (y : Heads s "quote" true) where
-      pub plans_quote_none : n ≡ 0 → PlansPair (rename_in_cons qq) s (Kept e)
+      pub plans_quote_none : r ≡ None → PlansPair (rename_in_cons qq) s (Kept e)
       plans_quote_none d =
           record {
             pairs = λ l h u fine a.
@@ -225,8 +226,8 @@ module _ (qq : Bool) {s : Bytes} where
                 (λ m. cons_quote qq m l h u (x l h u fine a) (y l h u fine a) ∙ requote_none l h u (no_tail l h u fine a o d));
           }
 
-      pub plans_quote : (n ≡ 0 → ⊥) → PlansPair (rename_in_cons qq) s (Requoted n e)
-      plans_quote d =
+      pub plans_quote : {n : ℕ} → r ≡ Some n → PlansPair (rename_in_cons qq) s (Requoted n e)
+      plans_quote {n} d =
           record {
             pairs = λ l h u fine a.
                 let j = tail l h u fine a o d in
@@ -244,7 +245,7 @@ module _ (qq : Bool) {s : Bytes} where
           }
 
     module _ (y : Heads s "quote" false) where
-      pub plans_qq_none : Looks s qq true → n ≡ 0 → PlansPair (rename_in_cons qq) s (Kept e)
+      pub plans_qq_none : Looks s qq true → r ≡ None → PlansPair (rename_in_cons qq) s (Kept e)
       plans_qq_none z d =
           record {
             pairs = λ l h u fine a.
@@ -252,8 +253,8 @@ module _ (qq : Bool) {s : Bytes} where
                 (λ m. cons_qq_none qq m l h u (x l h u fine a) (y l h u fine a) (z l h u fine a) (no_tail l h u fine a o d));
           }
 
-      pub plans_qq : Heads s "qq" true → qq ≡ true → (n ≡ 0 → ⊥) → PlansPair (rename_in_cons qq) s (Alone Inside n e)
-      plans_qq z is d =
+      pub plans_qq : {n : ℕ} → Heads s "qq" true → qq ≡ true → r ≡ Some n → PlansPair (rename_in_cons qq) s (Alone Inside n e)
+      plans_qq {n} z is d =
           subst (λ (b : Bool). PlansPair (rename_in_cons b) s (Alone Inside n e)) (sym is)
           record {
             pairs = λ l h u fine a.

@@ -18,6 +18,8 @@ use Rattle.walk.specs.declared.Task.{Task}
 use Rattle.walk.proofs.Results.{least_room}
 use Rattle.walk.proofs.Substitutes.{trees_kept}
 use Rattle.walk.proofs.TreeLaws.{tree_level}
+use Rattle.std.specs.declared.result.Result.{Result}
+use Rattle.names.specs.declared.Refusal.{Refusal}
 
 module _ {owning : Bool} {mem : Bytes} {t : Task} (p : TreeReady Helperform owning mem t) where
   -- a result has its room
@@ -25,7 +27,7 @@ module _ {owning : Bool} {mem : Bytes} {t : Task} (p : TreeReady Helperform owni
   helper_room = omega (arith, p.room, least_room t.f t.depth (tree_level Helperform t.f t.depth p.tree p.good))
 
   -- what is kept is what fits
-  pub keeps_helper : {new : Bytes} {n : ℕ} {r : Step} → Skips (family_part Helper) mem n → KeepsBytes mem new n t r → KeepsHelper mem new t r
+  pub keeps_helper : {new : Bytes} {n : ℕ} {r : Result Step Refusal} → Skips (family_part Helper) mem n → KeepsBytes mem new n t r → KeepsHelper mem new t r
   keeps_helper {new} {n} {r} s k =
       let q : Says helper_bytes ValidHelper helper_bytes (λ m a. fitting helper_bytes t.f t.counter a) mem new t r = trees_kept helper_bytes (λ m a. a) k (λ m a there v. (s.skips a v there, refl)) in
       record {

@@ -20,7 +20,6 @@ use Rattle.walk.specs.Steps.{M, DoneWith, RefusedWith, ◌>>=◌, ret}
 use Rattle.walk.specs.Walking.{Ready}
 use Rattle.walk.specs.declared.Child.TheVariants.{Helperform}
 use Rattle.walk.specs.declared.Piece.{Piece}
-use Rattle.walk.specs.declared.Piece.TheVariants.{Done as Took, Refused as Stopped}
 use Rattle.walk.specs.declared.Task.{Task}
 use Rattle.walk.specs.declared.Way.{Way}
 use Rattle.walk.specs.declared.Way.TheVariants.{Further}
@@ -33,6 +32,9 @@ use Rattle.walk.proofs.TreeLaws.{ChildMade, child_made}
 use Rattle.walk.proofs.Unique.{tells_of}
 use Rattle.walk.proofs.WayLaws.{sum_holds, sum_holds_left}
 use Rattle.walk.proofs.Wholes.{from_length, whole_frame, map_from, took_is}
+use Rattle.std.specs.declared.result.Result.{Result}
+use Rattle.std.specs.declared.result.Result.TheVariants.{Err}
+use Rattle.walk.specs.RuleAnswers.{piece_of}
 
 -- the runs of helpers: none, and the first of them before the others
 module _ (F : ℕ) (way : Way) (d : ℕ) (m : NameMap) (c x : ℕ) where
@@ -114,14 +116,14 @@ turns_start {t = t} p =
 
 -- after the last
 pub turns_end : {way : Way} {count sum : ℕ} {t : Task} {old mem : Bytes} {at to held c i : ℕ} → Turning way count sum t old mem at to held c i → count ≤ i
-    → WalksHelpers way old mem count sum t (Took at (to - t.free) held c)
+    → WalksHelpers way old mem count sum t (piece_of at (to - t.free) held c)
 unfolding helpers_count helpers_bytes
 turns_end {way} {count} {sum} {t} {old} {mem} {at} {to} {held} {c} {i} x le =
     tells_of (unique_helpers t.f t.depth count) x.asked.ready x.frame (end x.left refl (omega (arith, x.many)))
   where
     end : (left : Helpers) → x.left ≡ left → helpers_count left ≡ 0
         → ComesOut helpers_bytes t.f mem t.free (length (helpers_bytes x.asked.ready.tree)) (helpers_by t.f way t.depth x.asked.ready.m x.asked.ready.tree) t.counter sum
-        (Took at (to - t.free) held c)
+        (piece_of at (to - t.free) held c)
     end []ʰ e z =
         let b = x.bytes []ʰ ∙ append-nil x.made in
         let r = ap (λ (y : Helpers). length (helpers_bytes y)) e in
@@ -219,7 +221,7 @@ module _ {way : Way} {count sum : ℕ} {t : Task} {old mem : Bytes} {at to held 
         taken = λ e. omega (arith, x.taken e, one.size);
       }
 
-  module _ {y : Bytes} {r : Piece} (s : WalksChild Helperform way (from mem at) y held task r) where
+  module _ {y : Bytes} {r : Result Piece Refusal} (s : WalksChild Helperform way (from mem at) y held task r) where
     -- memory after the turn
     abbrev end : Bytes
     end = rejoin mem at y
@@ -245,13 +247,13 @@ module _ {way : Way} {count sum : ℕ} {t : Task} {old mem : Bytes} {at to held 
     told = whole_comes mem at (to - at) t.map fits s.frame to (omega (arith, turn_low)) (s.says p.m part_map one.h (into one.here) (omega (arith, low, x.place)) one.fine)
 
     -- it is refused
-    pub turn_refused : (q : Refusal) → r ≡ Stopped q → WalksHelpers way old end count sum t (Stopped q)
+    pub turn_refused : (q : Refusal) → r ≡ Err q → WalksHelpers way old end count sum t (Err q)
     turn_refused q e =
         let f = first_stops t.f way t.depth p.m c held one.h one.more (stayed_as q e told) in
         tells_of (unique_helpers t.f t.depth count) p all_frame
         (stayed q (x.stops q (subst (λ (l : Helpers). RefusedWith (helpers_by t.f way t.depth p.m l c held) q) (sym one.is) f)) refl)
 
-    module _ (j w z d : ℕ) (e : r ≡ Took j w z d) where
+    module _ (j w z d : ℕ) (e : r ≡ piece_of j w z d) where
       -- it is done
       got : Came helper_bytes t.f end to (length (helper_bytes one.h)) run c held j w z d
       got = came_as j w z d e told

@@ -17,7 +17,6 @@ use Rattle.records.specs.Records.{Loc, Sexp, Body, BL, BQ, BV, BC, BM, BF, sexp_
 use Rattle.records.specs.Views.{SeesLambda, LambdaParted, lambda_head}
 use Rattle.records.specs.declared.LambdaView.{LambdaView}
 use Rattle.records.specs.declared.Step.{Step}
-use Rattle.records.specs.declared.Step.TheVariants.{Done, Refused}
 use Rattle.records.proofs.StepAnswers.{Made, made, unmade}
 use Rattle.walk.specs.Arena.{MapAt, outcome}
 use Rattle.walk.specs.Bodyforms.{walk, rename_in_bodyform}
@@ -35,6 +34,9 @@ use Rattle.walk.proofs.Results.{rule_draws, rule_short, room_down}
 use Rattle.walk.proofs.RunLaws.{neutral_rule, step_refuses, in_step, step_same}
 use Rattle.walk.proofs.Unique.{tells_of, unique_fine}
 use Rattle.walk.proofs.Wholes.{from_length, whole_frame, whole_gives, map_from}
+use Rattle.std.specs.declared.result.Result.{Result}
+use Rattle.std.specs.declared.result.Result.TheVariants.{Err}
+use Rattle.records.specs.StepAnswer.{step_of}
 
 -- In-body of a BF: the captures first
 module _ (F d : ℕ) (ld : 1 ≤ d) (m : NameMap) (k : Captured) (c : ℕ) where
@@ -178,7 +180,7 @@ module _ {mem : Bytes} {v : LambdaView} {t : Task} (p : BodyReady IsLambda false
         }
 
     -- the captures are made
-    module _ {y : Bytes} {r : Step} (g : Walks AnyBody false (from o v.captures) y (captures_task t v) r) where
+    module _ {y : Bytes} {r : Result Step Refusal} (g : Walks AnyBody false (from o v.captures) y (captures_task t v) r) where
       abbrev one : Bytes
       one = rejoin o v.captures y
 
@@ -208,14 +210,14 @@ module _ {mem : Bytes} {v : LambdaView} {t : Task} (p : BodyReady IsLambda false
       with_captures u = record { loc = h.l; keyword = h.w; capture_args = h.ca; captures = h.c; args = h.a; body = h.e; made = u }
 
       -- they are refused
-      pub lambda_refused : (q : Refusal) → r ≡ Refused q → Walks IsLambda false mem one t (Refused q)
+      pub lambda_refused : (q : Refusal) → r ≡ Err q → Walks IsLambda false mem one t (Err q)
       lambda_refused q e =
           let n : 1 ≤ t.depth = omega (arith, widths.levels) in
           let i = in_refuses t.f t.depth n p.m (with_captures h.c) t.counter (unmade q e captures_give) in
           tells_of unique_fine p both_frame (refused q (subst (λ (b : Body). outcome (rule t.f false t.depth p.m b t.counter 0) ≡ refuses q) h.is i) refl)
 
       -- or made
-      module _ (i x c₁ : ℕ) (e : r ≡ Done i x c₁) where
+      module _ (i x c₁ : ℕ) (e : r ≡ step_of i x c₁) where
         captures_made : Made body_bytes one behind (length (body_bytes h.c)) (outcome (rule t.f false (t.depth - 1) p.m h.c t.counter 0)) i x c₁
         captures_made = made i x c₁ e captures_give
 
@@ -257,7 +259,7 @@ module _ {mem : Bytes} {v : LambdaView} {t : Task} (p : BodyReady IsLambda false
             map_after_both = let z = widths in map_after both_frame (omega (arith, z.room)) h.map
 
         -- and its answer is that of the BF
-        pub lambda_answers : {new : Bytes} {a : Step} → WalksCaptured one new v.capture_args v.args v.body x (captured_task t c₁) a → Walks IsLambda false mem new t a
+        pub lambda_answers : {new : Bytes} {a : Result Step Refusal} → WalksCaptured one new v.capture_args v.args v.body x (captured_task t c₁) a → Walks IsLambda false mem new t a
         unfolding captured_ready
         lambda_answers {new} {a} k =
             let n : 1 ≤ t.depth = omega (arith, widths.levels) in

@@ -22,10 +22,10 @@ use Rattle.walk.specs.DrawnMaps.{between, entry, EntryRoom, NameRoom, NameFrom, 
 use Rattle.walk.specs.Arena.{outcome}
 use Rattle.walk.specs.Steps.{M, ◌>>=◌, ret}
 use Rattle.walk.specs.declared.Growth.{Growth}
-use Rattle.walk.specs.declared.Invented.{Invented}
-use Rattle.walk.specs.declared.Invented.TheVariants.{Drawn, Refused}
 use Rattle.walk.proofs.StepLaws.{outcome_then, outcome_stop}
 use Rattle.walk.proofs.MapLaws.{entry_length, entry_bound, map_grown}
+use Rattle.std.specs.declared.result.Result.{Result}
+use Rattle.std.specs.declared.result.Result.TheVariants.{Ok, Err}
 
 -- a name's draw
 module _ (n : Bytes) (c x : ℕ) where
@@ -89,7 +89,7 @@ module _ {old : Bytes} {start end len c : ℕ} (room : NameRoom old start end le
   entry_fits = omega (arith, name_length, entry_length name new_name, entry_bound name c room.counts, room.fits)
 
   -- a made name that is too long
-  pub pushes_long : {r : Refusal} → r ≡ name_too_long → name_limit < length new_name → Pushes old old start end len c (Refused r)
+  pub pushes_long : {r : Refusal} → r ≡ name_too_long → name_limit < length new_name → Pushes old old start end len c (Err r)
   pushes_long is lt n h m w = record { runs = λ x. draw_long n c x (rw (name_is h) at lt); is = is }
 
   -- with the made name as the local array holds it
@@ -126,7 +126,7 @@ module _ {old : Bytes} {start end len c : ℕ} (room : NameRoom old start end le
         frame = same_wider (length old - longer g) (length old - len) (omega arith) (omega (arith, grows, entry_fits)) filled.frame;
       }
 
-      pushes_made : Pushes old new start end len c (Drawn answer)
+      pushes_made : Pushes old new start end len c (Ok answer)
       pushes_made n h m w =
           let is = name_is h in
           let short : length new_name ≤ name_limit = omega arith in
@@ -141,7 +141,7 @@ module _ {old : Bytes} {start end len c : ℕ} (room : NameRoom old start end le
             counted = omega arith;
           }
 
-      pub pushed : Grown old new len 0 (Drawn answer) × Pushes old new start end len c (Drawn answer)
+      pub pushed : Grown old new len 0 (Ok answer) × Pushes old new start end len c (Ok answer)
       pushed = (grown_made, pushes_made)
 
 -- an SA
@@ -168,7 +168,7 @@ module _ (m : NameMap) (l : Loc) (n : Bytes) (c x : ℕ) where
   atom_long t e = ap outcome (atom_entered t) ∙ outcome_stop (draw n) entered c x e
 
 module _ {old : Bytes} {start end len c : ℕ} where
-  pub invents_kept : same (between old start end) (ascii "@") ≡ true → InventsAtom old old start end len c (Drawn (growth len c end))
+  pub invents_kept : same (between old start end) (ascii "@") ≡ true → InventsAtom old old start end len c (Ok (growth len c end))
   invents_kept t l n h m w = record {
     value = m;
     runs = λ x. atom_kept m l n c x (rw (name_is h) at t);
@@ -178,16 +178,16 @@ module _ {old : Bytes} {start end len c : ℕ} where
     counted = omega arith;
   }
 
-pub invents_drawn : (old new : Bytes) (start end len c : ℕ) (r : Invented) → same (between old start end) (ascii "@") ≡ false → Pushes old new start end len c r
+pub invents_drawn : (old new : Bytes) (start end len c : ℕ) (r : Result Growth Refusal) → same (between old start end) (ascii "@") ≡ false → Pushes old new start end len c r
     → InventsAtom old new start end len c r
 invents_drawn old new start end len c r t p l n h m w = go r (p n h m w)
   where
     no : same n (ascii "@") ≡ false
     no = rw (name_is h) at t
 
-    go : (r : Invented) → Draws (draw n c) (λ n'. (n, n') ∷ m) new len c (atom_size (length n)) end r
+    go : (r : Result Growth Refusal) → Draws (draw n c) (λ n'. (n, n') ∷ m) new len c (atom_size (length n)) end r
         → Draws (invent_new_names_sexp m (SA l n) c) (λ m'. m') new len c (atom_size (length n)) end r
-    go (Drawn g) d = record {
+    go (Ok g) d = record {
       value = (n, d.value) ∷ m;
       runs = λ x. atom_made m l n c x no (d.runs x);
       map_at = d.map_at;
@@ -195,4 +195,4 @@ invents_drawn old new start end len c r t p l n h m w = go r (p n h m w)
       at_most = d.at_most;
       counted = d.counted;
     }
-    go (Refused k) d = record { runs = λ x. atom_long m l n c x no (d.runs x); is = d.is }
+    go (Err k) d = record { runs = λ x. atom_long m l n c x no (d.runs x); is = d.is }

@@ -24,13 +24,13 @@ use Rattle.walk.specs.Invent.{invent_new_names_sexp}
 use Rattle.walk.specs.DrawnMaps.{map_growth, atom_size, Roomy, NameRoom, growth, Grown, Draws, InventsAtom, InventsFrom, InventsSexp}
 use Rattle.walk.specs.Steps.{ret}
 use Rattle.walk.specs.declared.Growth.{Growth}
-use Rattle.walk.specs.declared.Invented.{Invented}
-use Rattle.walk.specs.declared.Invented.TheVariants.{Drawn, Refused}
 use Rattle.walk.proofs.InventLaws.{grown_none, grown_then, grown_stop}
 use Rattle.walk.proofs.MapLaws.{map_of_part}
 use Rattle.walk.proofs.PartMaps.{map_back}
 use Rattle.walk.proofs.StepLaws.{outcome_then, outcome_stop}
 use Rattle.walk.proofs.Views.{NoPair, NoAtom, AtomAt, atom}
+use Rattle.std.specs.declared.result.Result.{Result}
+use Rattle.std.specs.declared.result.Result.TheVariants.{Ok, Err}
 
 -- an SC whose head stands at start
 pub record PairAt (old : Bytes) (start : ℕ) (t : Sexp) : Type 0 where
@@ -96,18 +96,18 @@ module _ {old : Bytes} {len c : ℕ} {t : Sexp} (r : Roomy t old 0 len c) where
   pair_deep p le = let e = ap cons_depth p.is in (omega arith, omega arith, omega arith)
 
 -- r answers for t from the map m and the counter c; the next record stands at e
-abbrev Answers : NameMap → Sexp → Bytes → ℕ → ℕ → ℕ → ℕ → Invented → Type 0
+abbrev Answers : NameMap → Sexp → Bytes → ℕ → ℕ → ℕ → ℕ → Result Growth Refusal → Type 0
 Answers m t mem len c size e r = Draws (invent_new_names_sexp m t c) (λ m'. m') mem len c size e r
 
 -- an atom, and what draws nothing
 module _ {old : Bytes} {len c : ℕ} where
-  pub invents_atom : {new : Bytes} {v : NameView} {r : Invented} → SeesSexp old (Atom v) → Grown old new len 0 r → InventsAtom old new v.start v.end len c r → InventsSexp old new 0 len c r
+  pub invents_atom : {new : Bytes} {v : NameView} {r : Result Growth Refusal} → SeesSexp old (Atom v) → Grown old new len 0 r → InventsAtom old new v.start v.end len c r → InventsSexp old new 0 len c r
   invents_atom {new} {v} {r} sa g h t room m w =
       let a = atom sa t room.fields room.there in
       go a r g (h a.l a.n (record { there = a.name.bytes; ends = a.name.ends }) m w)
     where
-      go : (a : AtomAt old v t) (r : Invented) → Grown old new len 0 r → Answers m (SA a.l a.n) new len c (atom_size (length a.n)) v.end r → InventsFrom old new 0 len c t m r
-      go a (Drawn k) g d =
+      go : (a : AtomAt old v t) (r : Result Growth Refusal) → Grown old new len 0 r → Answers m (SA a.l a.n) new len c (atom_size (length a.n)) v.end r → InventsFrom old new 0 len c t m r
+      go a (Ok k) g d =
           let size = a.own_size in
           record {
             grown = g;
@@ -120,12 +120,12 @@ module _ {old : Bytes} {len c : ℕ} where
               counted = omega (arith, d.counted);
             };
           }
-      go a (Refused k) g d = record {
+      go a (Err k) g d = record {
         grown = same_wider (length old - (len + map_growth * length (sexp_bytes t))) (length old - len) (omega arith) (omega arith) g;
         draws = record { runs = λ x. ap (λ (s : Sexp). outcome (invent_new_names_sexp m s c x)) a.is ∙ d.runs x; is = d.is };
       }
 
-  pub invents_other : {v : SexpView} {end : ℕ} → NoPair v → NoAtom v → SeesSexp old v → Skips fields_part old end → InventsSexp old old 0 len c (Drawn (growth len c end))
+  pub invents_other : {v : SexpView} {end : ℕ} → NoPair v → NoAtom v → SeesSexp old v → Skips fields_part old end → InventsSexp old old 0 len c (Ok (growth len c end))
   invents_other p q see size t room m w = record {
     grown = grown_none len old size.within;
     draws = record {
@@ -154,8 +154,8 @@ module _ (m : NameMap) {old : Bytes} {start : ℕ} {t : Sexp} (p : PairAt old st
       ∙ outcome_stop (invent_new_names_sexp m p.head) (λ m'. invent_new_names_sexp m' p.tail) c x e
 
 -- the head of an SC is refused
-pub invents_refused : {old mid : Bytes} {start len c : ℕ} {r : Refusal} → ((t : Sexp) → Roomy t old 0 len c → PairAt old start t) → InventsSexp old mid start len c (Refused r)
-    → InventsSexp old mid 0 len c (Refused r)
+pub invents_refused : {old mid : Bytes} {start len c : ℕ} {r : Refusal} → ((t : Sexp) → Roomy t old 0 len c → PairAt old start t) → InventsSexp old mid start len c (Err r)
+    → InventsSexp old mid 0 len c (Err r)
 invents_refused {old} {len = len} {c} pair h t room m w =
     let p = pair t room in
     let d = h p.head (head_room room p) m w in
@@ -166,7 +166,7 @@ invents_refused {old} {len = len} {c} pair h t room m w =
     }
 
 -- after the head of an SC: the tail with its room
-module _ {old mid : Bytes} {start len c : ℕ} {g : Growth} (h : InventsSexp old mid start len c (Drawn g)) where
+module _ {old mid : Bytes} {start len c : ℕ} {g : Growth} (h : InventsSexp old mid start len c (Ok g)) where
   pub tail_room : {t : Sexp} → Roomy t old 0 len c → (p : PairAt old start t) → (m : NameMap) → MapAt old len m → Roomy p.tail mid g.end g.len g.counter
   tail_room {t} room p m w =
       let d = h p.head (head_room room p) m w in
@@ -183,7 +183,7 @@ module _ {old mid : Bytes} {start len c : ℕ} {g : Growth} (h : InventsSexp old
 
   module _ (pair : (t : Sexp) → Roomy t old 0 len c → PairAt old start t) {new : Bytes} where
     -- the tail is refused
-    pub invents_stopped : {r : Refusal} → InventsSexp mid new g.end g.len g.counter (Refused r) → InventsSexp old new 0 len c (Refused r)
+    pub invents_stopped : {r : Refusal} → InventsSexp mid new g.end g.len g.counter (Err r) → InventsSexp old new 0 len c (Err r)
     invents_stopped k t room m w =
         let p = pair t room in
         let d = h p.head (head_room room p) m w in
@@ -195,7 +195,7 @@ module _ {old mid : Bytes} {start len c : ℕ} {g : Growth} (h : InventsSexp old
         }
 
     -- head and tail
-    pub invents_pair : {u : Growth} → InventsSexp mid new g.end g.len g.counter (Drawn u) → InventsSexp old new 0 len c (Drawn u)
+    pub invents_pair : {u : Growth} → InventsSexp mid new g.end g.len g.counter (Ok u) → InventsSexp old new 0 len c (Ok u)
     invents_pair k t room m w =
         let p = pair t room in
         let d = h p.head (head_room room p) m w in
@@ -217,9 +217,9 @@ module _ {old mid : Bytes} {start len c : ℕ} {g : Growth} (h : InventsSexp old
 abbrev pub shifted : ℕ → Growth → Growth
 shifted a g = growth g.len g.counter (a + g.end)
 
-abbrev pub moved : ℕ → Invented → Invented
-moved a (Drawn g) = Drawn (shifted a g)
-moved a (Refused r) = Refused r
+abbrev pub moved : ℕ → Result Growth Refusal → Result Growth Refusal
+moved a (Ok g) = Ok (shifted a g)
+moved a (Err r) = Err r
 
 pub roomy_part : {t : Sexp} {mem : Bytes} {a len c : ℕ} → Roomy t mem a len c → Roomy t (part mem a (length mem - a)) 0 len c
 roomy_part {mem = mem} {a} r =
@@ -243,14 +243,14 @@ module _ (mem : Bytes) (a : ℕ) (y : Bytes) where
       let l = part_length mem a rest (omega arith) in
       same_wider (length mem - k) (length mem - len) (omega arith) (omega arith) (same_back mem a rest (omega arith) f (omega arith) (omega arith))
 
-  pub invents_part : {len c : ℕ} (r : Invented) → InventsSexp (part mem a rest) y 0 len c r → InventsSexp mem whole a len c (moved a r)
+  pub invents_part : {len c : ℕ} (r : Result Growth Refusal) → InventsSexp (part mem a rest) y 0 len c r → InventsSexp mem whole a len c (moved a r)
   invents_part {len} {c} r h t room m w = go r (h t (roomy_part room) m (map_of_part a (omega (arith, room.fits)) w))
     where
       fit : a + length (sexp_bytes t) + map_growth * length (sexp_bytes t) + len ≤ length mem
       fit = room.fits
 
-      go : (r : Invented) → InventsFrom (part mem a rest) y 0 len c t m r → InventsFrom mem whole a len c t m (moved a r)
-      go (Drawn g) d =
+      go : (r : Result Growth Refusal) → InventsFrom (part mem a rest) y 0 len c t m r → InventsFrom mem whole a len c t m (moved a r)
+      go (Ok g) d =
           let l = part_length mem a rest (omega arith) in
           record {
             grown = record {
@@ -267,7 +267,7 @@ module _ (mem : Bytes) (a : ℕ) (y : Bytes) where
               counted = d.draws.counted;
             };
           }
-      go (Refused k) d = record {
+      go (Err k) d = record {
         grown = frame_back (omega arith) (omega arith) d.grown;
         draws = record { runs = d.draws.runs; is = d.draws.is };
       }

@@ -19,7 +19,6 @@ use Rattle.records.specs.Valid.{ValidSexp, BodyFields, lambda_depth, NoMod}
 use Rattle.records.specs.Views.{SeesLambda, lambda_head}
 use Rattle.records.specs.declared.LambdaView.{LambdaView}
 use Rattle.records.specs.declared.Step.{Step}
-use Rattle.records.specs.declared.Step.TheVariants.{Refused as Unwritten}
 use Rattle.walk.specs.Arena.{MapAt, outcome}
 use Rattle.walk.specs.Bodyforms.{walk, args_then_in, rename_args_bodyform}
 use Rattle.walk.specs.Draws.{sexp_atoms, atoms, dbl}
@@ -29,9 +28,7 @@ use Rattle.walk.specs.Room.{room}
 use Rattle.walk.specs.Steps.{M, ◌>>=◌, ret, body_size, step}
 use Rattle.walk.specs.Walking.{rule, AnyBody, IsLambda, Fine, BodyReady, Walks, BothReady, WalksBoth, Leads, Finishes}
 use Rattle.walk.specs.declared.Drawn.{Drawn}
-use Rattle.walk.specs.declared.Drawn.TheVariants.{Done, Refused as Stopped}
 use Rattle.walk.specs.declared.Piece.{Piece}
-use Rattle.walk.specs.declared.Piece.TheVariants.{Done as Took, Refused as Halted}
 use Rattle.walk.specs.declared.Task.{Task}
 use Rattle.walk.proofs.LambdaParts.{lambda_split, fine_parts, lambda_draws}
 use Rattle.walk.proofs.NewNameLaws.{args_then, args_go_on, ArgsGot, args_got, args_halted}
@@ -42,6 +39,10 @@ use Rattle.walk.proofs.Results.{some_level, room_down, counter_least, invent_dra
 use Rattle.walk.proofs.RunLaws.{own_step, step_refuses}
 use Rattle.walk.proofs.Unique.{tells_of, unique_fine}
 use Rattle.walk.proofs.Wholes.{from_length, whole_frame, whole_at, Led, took, halted, finished_gives}
+use Rattle.std.specs.declared.result.Result.{Result}
+use Rattle.std.specs.declared.result.Result.TheVariants.{Err}
+use Rattle.walk.specs.RuleAnswers.{drawn_of}
+use Rattle.walk.specs.RuleAnswers.{piece_of}
 
 -- the bytes of a BF before its args
 abbrev before_args : Loc → Bytes → Sexp → Body → Bytes
@@ -145,7 +146,7 @@ module _ {old : Bytes} {args : ℕ} {t : Task} (p : BodyReady IsLambda true old 
           counts = counter_least t.counter n (omega (arith, p.counts)) (omega (arith, o.whole, o.short, p.longest));
         }
 
-    module _ {y : Bytes} {r : Drawn} (d : DrawsArgs (from one args) y free false F t.counter r) where
+    module _ {y : Bytes} {r : Result Drawn Refusal} (d : DrawsArgs (from one args) y free false F t.counter r) where
       abbrev two : Bytes
       two = rejoin one args y
 
@@ -171,18 +172,18 @@ module _ {old : Bytes} {args : ℕ} {t : Task} (p : BodyReady IsLambda true old 
           ap (λ (b : Body). outcome (rule F true t.depth p.m b t.counter 0)) o.is
           ∙ own_step F t.depth p.m (BF o.l o.w o.ca o.c o.a o.e) t.counter (some_level p.good)
 
-      lambda_tells : {new : Bytes} {z : Step} → SameOutside old new free (length old) → Gives body_bytes new free (length (body_bytes p.tree)) (outcome (rule F true t.depth p.m p.tree t.counter 0)) z
+      lambda_tells : {new : Bytes} {z : Result Step Refusal} → SameOutside old new free (length old) → Gives body_bytes new free (length (body_bytes p.tree)) (outcome (rule F true t.depth p.m p.tree t.counter 0)) z
           → Walks IsLambda true old new t z
       lambda_tells f g = tells_of unique_fine p (same_wider free (length old - t.map) (omega arith) (omega (arith, p.lone refl)) f) g
 
       -- the args are refused
-      pub lambda_stopped : (q : Refusal) → r ≡ Stopped q → Walks IsLambda true old two t (Unwritten q)
+      pub lambda_stopped : (q : Refusal) → r ≡ Err q → Walks IsLambda true old two t (Err q)
       lambda_stopped q e =
           lambda_tells both_frame
           (refused q (lambda_own ∙ step_refuses F body_size (args_then F false o.a then_body) t.counter 0 (args_halted F 0 then_body q (omega arith) e answer)) refl)
 
       -- they are drawn for
-      module _ (i w len c' : ℕ) (e : r ≡ Done i w len c') where
+      module _ (i w len c' : ℕ) (e : r ≡ drawn_of i w len c') where
         got : ArgsGot false o.a y free F t.counter i w len c'
         got = args_got i w len c' e answer
 
@@ -191,7 +192,7 @@ module _ {old : Bytes} {args : ℕ} {t : Task} (p : BodyReady IsLambda true old 
 
         -- what Own and In-body of its body have to do
         abbrev body_task : Task
-        body_task = record { free = free + args + w - q; map = len; f = F; depth = t.depth - 1; counter = c' }
+        body_task = record { free = free + (args + w) - q; map = len; f = F; depth = t.depth - 1; counter = c' }
 
         -- where things stand
         pub lambda_places : (q + length (body_bytes o.e) ≤ free) × (q ≤ free + args + w) × (free + args + w + (F + room F (t.depth - 1)) + len ≤ length old)
@@ -234,7 +235,7 @@ module _ {old : Bytes} {args : ℕ} {t : Task} (p : BodyReady IsLambda true old 
               held = got.short;
             }
 
-        module _ {x : Bytes} {a : Piece} (b : WalksBoth (from two q) x w body_task a) where
+        module _ {x : Bytes} {a : Result Piece Refusal} (b : WalksBoth (from two q) x w body_task a) where
           abbrev three : Bytes
           three = rejoin two q x
 
@@ -254,13 +255,13 @@ module _ {old : Bytes} {args : ℕ} {t : Task} (p : BodyReady IsLambda true old 
               args_go_on F false o.a t.counter 0 then_body got.runs (omega (arith, got.short)) ∙ ap (λ (z : ℕ). outcome (then_body got.m new_args c' z)) n
 
           -- the body is refused
-          pub lambda_halted : (k : Refusal) → a ≡ Halted k → Walks IsLambda true old three t (Unwritten k)
+          pub lambda_halted : (k : Refusal) → a ≡ Err k → Walks IsLambda true old three t (Err k)
           lambda_halted k z =
               lambda_tells three_frame
               (refused k (lambda_own ∙ step_refuses F body_size (args_then F false o.a then_body) t.counter 0 (goes_on ∙ halted k z leads (λ e'. ret (BF o.l o.w o.ca o.c new_args e')))) refl)
 
           -- all of it is written
-          module _ (j u s n : ℕ) (z : a ≡ Took j u s n) where
+          module _ (j u s n : ℕ) (z : a ≡ piece_of j u s n) where
             done : Led body_bytes AnyBody F x body_task.free (length (body_bytes o.e)) (args_then_in F (walk F (t.depth - 1)) got.m o.e) c' w j u s n
             done = took j u s n z leads
 
@@ -291,7 +292,7 @@ module _ {old : Bytes} {args : ℕ} {t : Task} (p : BodyReady IsLambda true old 
             pub lambda_sums : (q + j ≤ free) × (free + (args + w + u) ≤ length old)
             lambda_sums = (omega (arith, done.read, lambda_places.0), omega (arith, body_out.fits, done.wrote, three_frame.size))
 
-            pub lambda_finished : {z : Step} → Finishes (q + j) (args + w + u) F n z → Walks IsLambda true old three t z
+            pub lambda_finished : {z : Result Step Refusal} → Finishes (q + j) (args + w + u) F n z → Walks IsLambda true old three t z
             lambda_finished {z} f =
                 lambda_tells three_frame
                 (subst (λ (a : Outcome Body). Gives body_bytes three free (length (body_bytes p.tree)) a z) (sym lambda_own)

@@ -13,7 +13,6 @@ use Rattle.records.specs.StepAnswer.{Outcome, Gives, refused}
 use Rattle.records.specs.Records.{mark_width, Loc, Sexp, Body, BL, BQ, BV, BC, BM, BF, Form, sexp_bytes, body_bytes, record_bytes}
 use Rattle.records.specs.Valid.{SexpFields, BodyFields}
 use Rattle.records.specs.declared.Step.{Step}
-use Rattle.records.specs.declared.Step.TheVariants.{Done, Refused}
 use Rattle.walk.specs.Arena.{MapAt, Asks, Substitutes, fitting, outcome}
 use Rattle.walk.specs.Bodyforms.{Rules, body_rules, log_assign, rename_args_bodyform, rename_in_quoted, rename_in_value, rename_in_bodyform}
 use Rattle.walk.specs.Leaves.{IsQuoted, IsValue, IsKept, ValidKind, InBody, WithMark, with_mark_bytes, ValidWithMark, RenamesWithMark}
@@ -24,6 +23,9 @@ use Rattle.walk.proofs.Fits.{Headed, whole, head_at, rest_at, headed_refused, he
 use Rattle.walk.proofs.MapLaws.{map_after}
 use Rattle.walk.proofs.OnParts.{from, rejoin, asks_part, part_frame, part_gives}
 use Rattle.walk.proofs.StepLaws.{step_fits}
+use Rattle.std.specs.declared.result.Result.{Result}
+use Rattle.std.specs.declared.result.Result.TheVariants.{Err}
+use Rattle.records.specs.StepAnswer.{step_of}
 
 -- a step that makes one record of another and holds nothing
 one_record : (F c x : ℕ) (b : Body) → outcome (step F body_size (ret b) c x) ≡ fitting body_bytes F c b
@@ -123,7 +125,7 @@ module _ {Only : Body → Type 0} (see : (b : Body) → ValidKind Only b → Val
         room = p.room;
       }
 
-  renames_behind : {new : Bytes} {r : Step} → RenamesWithMark mem new t r → InBody Only mem new t r
+  renames_behind : {new : Bytes} {r : Result Step Refusal} → RenamesWithMark mem new t r → InBody Only mem new t r
   renames_behind {new} {r} s q =
       record {
         frame = s.frame;
@@ -142,10 +144,10 @@ asks_quoted = asks_behind quoted
 pub asks_value : {mem : Bytes} {t : Task} → Asks body_bytes (ValidKind IsValue) mem t → Asks with_mark_bytes ValidWithMark mem t
 asks_value = asks_behind value
 
-pub renames_quoted : {mem new : Bytes} {t : Task} {r : Step} → RenamesWithMark mem new t r → InBody IsQuoted mem new t r
+pub renames_quoted : {mem new : Bytes} {t : Task} {r : Result Step Refusal} → RenamesWithMark mem new t r → InBody IsQuoted mem new t r
 renames_quoted = renames_behind quoted
 
-pub renames_value : {mem new : Bytes} {t : Task} {r : Step} → RenamesWithMark mem new t r → InBody IsValue mem new t r
+pub renames_value : {mem new : Bytes} {t : Task} {r : Result Step Refusal} → RenamesWithMark mem new t r → InBody IsValue mem new t r
 renames_value = renames_behind value
 
 -- a mark and an S record behind it
@@ -155,7 +157,7 @@ mark_parts v u = record { width = v.mark; bytes = refl }
 pub mark_low : {mem : Bytes} {t : Task} → Asks with_mark_bytes ValidWithMark mem t → mark_width ≤ t.free
 mark_low p = omega (arith, whole (mark_parts p.good p.tree.1), p.below)
 
-pub mark_no_room : {mem : Bytes} {t : Task} {r : Step} → r ≡ Refused over_long → t.f < mark_width → RenamesWithMark mem mem t r
+pub mark_no_room : {mem : Bytes} {t : Task} {r : Result Step Refusal} → r ≡ Err over_long → t.f < mark_width → RenamesWithMark mem mem t r
 mark_no_room {t = t} is lt =
     record {
       frame = same_refl;
@@ -179,7 +181,7 @@ module _ {mem a : Bytes} {t : Task} (p : Asks with_mark_bytes ValidWithMark mem 
       (map_after w.frame (omega (arith, p.room)) p.map) (omega (arith, w.frame.size, p.room))
 
   -- and the S record is answered
-  module _ {y : Bytes} {r : Step} (s : Substitutes rename_atom (from a mark_width) y (behind_task t) r) where
+  module _ {y : Bytes} {r : Result Step Refusal} (s : Substitutes rename_atom (from a mark_width) y (behind_task t) r) where
     abbrev end : Bytes
     end = rejoin a mark_width y
 
@@ -206,15 +208,15 @@ module _ {mem a : Bytes} {t : Task} (p : Asks with_mark_bytes ValidWithMark mem 
           at_below behind_frame (copied_at 0 t.free w (omega (arith, p.room)) (head_at (mark_parts v x.1) here) (omega arith) (omega arith) (omega arith)) (omega arith)
 
       -- the sums that are answered
-      sums : (i j d : ℕ) → r ≡ Done i j d → (mark_width + i ≡ length (with_mark_bytes x)) × (mark_width + j ≤ t.f)
+      sums : (i j d : ℕ) → r ≡ step_of i j d → (mark_width + i ≡ length (with_mark_bytes x)) × (mark_width + j ≤ t.f)
       sums i j d e =
           let k = read_wrote (mark_parts v (rename_atom m x.1)) t.free t.f t.counter le behind_gives i j d e in
           (omega (arith, k.0, whole (mark_parts v x.1)), k.1)
 
-    pub behind_sums : (i j d : ℕ) → r ≡ Done i j d → (mark_width + i ≤ t.free) × (mark_width + j ≤ t.f)
+    pub behind_sums : (i j d : ℕ) → r ≡ step_of i j d → (mark_width + i ≤ t.free) × (mark_width + j ≤ t.f)
     behind_sums i j d e = let k = sums p.map p.good p.there p.below i j d e in (omega (arith, k.0, p.below), k.1)
 
-    pub behind_refused : (k : Refusal) → r ≡ Refused k → RenamesWithMark mem end t (Refused k)
+    pub behind_refused : (k : Refusal) → r ≡ Err k → RenamesWithMark mem end t (Err k)
     behind_refused k e =
         record {
           frame = framed;
@@ -222,7 +224,7 @@ module _ {mem a : Bytes} {t : Task} (p : Asks with_mark_bytes ValidWithMark mem 
               headed_refused (mark_parts v (rename_atom m x.1)) t.free t.f t.counter le (behind_gives map v there below) k e;
         }
 
-    pub behind_done : (i j d : ℕ) → r ≡ Done i j d → RenamesWithMark mem end t (Done (mark_width + i) (mark_width + j) d)
+    pub behind_done : (i j d : ℕ) → r ≡ step_of i j d → RenamesWithMark mem end t (step_of (mark_width + i) (mark_width + j) d)
     behind_done i j d e =
         record {
           frame = framed;

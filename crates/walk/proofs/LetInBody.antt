@@ -18,7 +18,6 @@ use Rattle.records.specs.Records.{Loc, Kind, pattern_field, Body, BL, body_bytes
 use Rattle.records.specs.Views.{SeesLet}
 use Rattle.records.specs.declared.LetView.{LetView}
 use Rattle.records.specs.declared.Step.{Step}
-use Rattle.records.specs.declared.Step.TheVariants.{Done, Refused}
 use Rattle.records.proofs.StepAnswers.{Made as Given, made as was_made, unmade}
 use Rattle.walk.specs.Arena.{outcome}
 use Rattle.walk.specs.Bodyforms.{each_binding_body, rename_in_bodyform}
@@ -28,7 +27,6 @@ use Rattle.walk.specs.Room.{room}
 use Rattle.walk.specs.Steps.{M, ◌>>=◌, ret, child, step, body_size, over_long}
 use Rattle.walk.specs.Walking.{rule, AnyBody, IsBinder, BodyReady, Walks, Leads, Finishes}
 use Rattle.walk.specs.declared.Piece.{Piece}
-use Rattle.walk.specs.declared.Piece.TheVariants.{Done as Took, Refused as Stopped}
 use Rattle.walk.specs.declared.Task.{Task}
 use Rattle.walk.proofs.DoneLaws.{child_gives, child_over, child_refuses}
 use Rattle.walk.proofs.LetLaws.{Let, Seen, seen, let_head, let_made, own_same, own_many, own_valid, heads_short, heads_are, half_frame, half_head, half_out, half_last}
@@ -38,6 +36,10 @@ use Rattle.walk.proofs.Results.{room_down}
 use Rattle.walk.proofs.RunLaws.{in_step, neutral_rule}
 use Rattle.walk.proofs.Unique.{tells_of, unique_fine}
 use Rattle.walk.proofs.Wholes.{from_length, whole_frame, whole_gives, map_from, Led, took, halted, finished_gives, refused_gives}
+use Rattle.std.specs.declared.result.Result.{Result}
+use Rattle.std.specs.declared.result.Result.TheVariants.{Err}
+use Rattle.walk.specs.RuleAnswers.{piece_of}
+use Rattle.records.specs.StepAnswer.{step_of}
 
 -- the bindings of a let by In-body, and then its body
 unfoldable in_let_run : ℕ → ℕ → NameMap → Kind → Loc → Bytes → Bytes → List Binding → Body → M Body
@@ -120,7 +122,7 @@ module _ {t : Task} {mem : Bytes} {v : LetView} (x : SeesLet mem v) (p : BodyRea
         }
 
     -- the bindings are done
-    module _ {y : Bytes} {r : Piece} (g : BindsAll (from mid v.first) y v.count 0 0 all_task false r) where
+    module _ {y : Bytes} {r : Result Piece Refusal} (g : BindsAll (from mid v.first) y v.count 0 0 all_task false r) where
       -- memory then
       abbrev then : Bytes
       then = rejoin mid v.first y
@@ -154,15 +156,15 @@ module _ {t : Task} {mem : Bytes} {v : LetView} (x : SeesLet mem v) (p : BodyRea
       then_frame = same_wider t.free (length mem - t.map) (omega arith) (omega (arith, lent, wide, low)) (half_frame z low f top far wide_top bound_frame)
 
       -- a binding is refused
-      pub bindings_refused : (q : Refusal) → r ≡ Stopped q → Walks IsBinder false mem then t (Refused q)
+      pub bindings_refused : (q : Refusal) → r ≡ Err q → Walks IsBinder false mem then t (Err q)
       unfolding in_let_run
       bindings_refused q e =
           tells_of unique_fine p then_frame
-          (subst (λ (o : Outcome Body). Gives body_bytes then t.free (length (body_bytes p.tree)) o (Refused q)) (sym (in_let_step t.f t.depth p.m p.tree here t.counter))
+          (subst (λ (o : Outcome Body). Gives body_bytes then t.free (length (body_bytes p.tree)) o (Err q)) (sym (in_let_step t.f t.depth p.m p.tree here t.counter))
           (refused_gives t.f (in_let_run t.f (t.depth - 1) p.m here.k here.l here.w here.h bs here.b) t.counter (halted q e leads _) refl))
 
       -- what they became
-      module _ (i w s c : ℕ) (e : r ≡ Took i w s c) where
+      module _ (i w s c : ℕ) (e : r ≡ piece_of i w s c) where
         -- their result
         half : Led (joined binding_bytes) (MadeBindings v.count 0 (heads (own_patterns bs) bs) t.f) t.f y t.free (length (joined binding_bytes bs)) (each_binding_body t.f (rule t.f false (t.depth - 1) p.m) bs) t.counter 0 i w s c
         half = took i w s c e leads
@@ -189,7 +191,7 @@ module _ {t : Task} {mem : Bytes} {v : LetView} (x : SeesLet mem v) (p : BodyRea
 
         -- what the body is given
         abbrev body_task : Task
-        body_task = record { free = t.free + v.first + w - q; map = t.map; f = t.f; depth = t.depth - 1; counter = c }
+        body_task = record { free = t.free + (v.first + w) - q; map = t.map; f = t.f; depth = t.depth - 1; counter = c }
 
         -- how far the counter has come
         counter_bound : c ≤ t.counter + dbl (t.depth - 1) (inside_of bs)
@@ -213,18 +215,18 @@ module _ {t : Task} {mem : Bytes} {v : LetView} (x : SeesLet mem v) (p : BodyRea
             }
 
         -- its body is done
-        module _ {y₂ : Bytes} {r₂ : Step} (g₂ : Walks AnyBody false (from then q) y₂ body_task r₂) where
+        module _ {y₂ : Bytes} {r₂ : Result Step Refusal} (g₂ : Walks AnyBody false (from then q) y₂ body_task r₂) where
           -- memory then
           abbrev end : Bytes
           end = rejoin then q y₂
 
           -- the result of the body has room
-          fit₂ : q + (t.free + v.first + w - q) + t.map ≤ length then
+          fit₂ : q + body_task.free + t.map ≤ length then
           fit₂ = omega (arith, past, written, wide, then_frame.size)
 
           -- what the body changed
           body_frame : SameOutside then end (t.free + v.first + w) (length then - t.map)
-          body_frame = same_wider (t.free + v.first + w) (length then - t.map) (omega (arith, past)) (omega arith) (whole_frame then q (t.free + v.first + w - q) t.map fit₂ g₂.frame)
+          body_frame = same_wider (t.free + v.first + w) (length then - t.map) (omega (arith, past)) (omega arith) (whole_frame then q body_task.free t.map fit₂ g₂.frame)
 
           -- what has changed
           pub end_frame : SameOutside mem end t.free (length mem - t.map)
@@ -235,7 +237,7 @@ module _ {t : Task} {mem : Bytes} {v : LetView} (x : SeesLet mem v) (p : BodyRea
           unfolding body_ready
           body_gives =
               let k = body_ready in
-              whole_gives then q (t.free + v.first + w - q) t.map fit₂ g₂.frame (t.free + v.first + w) (omega (arith, past)) (g₂.says k.m k.map k.tree k.there k.below k.good)
+              whole_gives then q body_task.free t.map fit₂ g₂.frame (t.free + v.first + w) (omega (arith, past)) (g₂.says k.m k.map k.tree k.there k.below k.good)
 
           -- the run
           abbrev run : M Body
@@ -251,15 +253,15 @@ module _ {t : Task} {mem : Bytes} {v : LetView} (x : SeesLet mem v) (p : BodyRea
           run_is = half.goes_on (λ bs'. child t.f body_size (rule t.f false (t.depth - 1) p.m here.b) >>= λ b'. ret (BL here.k here.l here.w here.h (to_bindings bs') b'))
 
           -- what is answered
-          answers : {o : Step} → Gives body_bytes end t.free (length (body_bytes p.tree)) (outcome (step t.f body_size run t.counter 0)) o → Walks IsBinder false mem end t o
+          answers : {o : Result Step Refusal} → Gives body_bytes end t.free (length (body_bytes p.tree)) (outcome (step t.f body_size run t.counter 0)) o → Walks IsBinder false mem end t o
           answers {o} h = tells_of unique_fine p end_frame (subst (λ (a : Outcome Body). Gives body_bytes end t.free (length (body_bytes p.tree)) a o) (sym (in_let_step t.f t.depth p.m p.tree here t.counter)) h)
 
           -- the body is refused
-          pub body_refused : (n : Refusal) → r₂ ≡ Refused n → Walks IsBinder false mem end t (Refused n)
+          pub body_refused : (n : Refusal) → r₂ ≡ Err n → Walks IsBinder false mem end t (Err n)
           body_refused n e =
               answers (refused_gives t.f run t.counter (run_is ∙ child_refuses t.f body_size last (neutral_rule t.f false (t.depth - 1) p.m here.b) c s (unmade n e body_gives)) refl)
 
-          module _ (j a d : ℕ) (e₂ : r₂ ≡ Done j a d) where
+          module _ (j a d : ℕ) (e₂ : r₂ ≡ step_of j a d) where
             -- its result
             given : Given body_bytes end (t.free + v.first + w) (length (body_bytes here.b)) (outcome (rule t.f false (t.depth - 1) p.m here.b c 0)) j a d
             given = was_made j a d e₂ body_gives
@@ -269,13 +271,13 @@ module _ {t : Task} {mem : Bytes} {v : LetView} (x : SeesLet mem v) (p : BodyRea
             body_sizes = (omega (arith, given.read, past), omega (arith, given.wrote, given.out.fits, end_frame.size))
 
             -- the sum is too long
-            pub body_over : {o : Step} → t.f < s + a → o ≡ Refused over_long → Walks IsBinder false mem end t o
+            pub body_over : {o : Result Step Refusal} → t.f < s + a → o ≡ Err over_long → Walks IsBinder false mem end t o
             unfolding body_size
             body_over {o} lt q =
                 answers (refused_gives t.f run t.counter (run_is ∙ child_over t.f body_size last (neutral_rule t.f false (t.depth - 1) p.m here.b) c s given.is (omega (arith, given.wrote))) q)
 
             -- the let is finished
-            pub let_finished : {o : Step} → s + a ≤ t.f → Finishes (q + j) (v.first + w + a) t.f d o → Walks IsBinder false mem end t o
+            pub let_finished : {o : Result Step Refusal} → s + a ≤ t.f → Finishes (q + j) (v.first + w + a) t.f d o → Walks IsBinder false mem end t o
             unfolding body_size outcome ret
             let_finished {o} le fin =
                 let us = half.u in

@@ -18,6 +18,8 @@ use Rattle.walk.specs.Walking.{IsBinder, Fine, BodyReady, Walks, let_aside, coun
 use Rattle.walk.specs.declared.Task.{Task}
 use Rattle.walk.proofs.Results.{room_down, fine_as, ready_as}
 use Rattle.walk.proofs.Sizes.{positive}
+use Rattle.std.specs.declared.result.Result.{Result}
+use Rattle.names.specs.declared.Refusal.{Refusal}
 
 -- a let's kind stands behind its mark
 pub let_kind : {mem : Bytes} {k : Kind} (b : Body) → IsBinder b → At mem 0 (body_bytes b) → kind_of (get_or mem mark_width 0) ≡ k → IsLet k b
@@ -106,7 +108,7 @@ module _ {mem : Bytes} {t : Task} (p : BodyReady IsBinder true mem t) where
       }
 
 -- what is answered of a let of this kind
-pub walks_kind : {old new : Bytes} {t : Task} {r : Step} (k : Kind) → kind_of (get_or old mark_width 0) ≡ k → Walks (IsLet k) true old new t r → Walks IsBinder true old new t r
+pub walks_kind : {old new : Bytes} {t : Task} {r : Result Step Refusal} (k : Kind) → kind_of (get_or old mark_width 0) ≡ k → Walks (IsLet k) true old new t r → Walks IsBinder true old new t r
 walks_kind k e s = record { frame = s.frame; says = λ m map b there below good. s.says m map b there below (fine_as (let_kind b good.only there e) good) }
 
 -- the kind by the byte

@@ -17,9 +17,9 @@ use Rattle.walk.specs.LetWalks.{heads, FineBinding, Chosen, AllReady, AllBound}
 use Rattle.walk.specs.Scopes.{with_patterns}
 use Rattle.walk.specs.Steps.{M, ◌>>=◌}
 use Rattle.walk.specs.Walking.{rule, led}
-use Rattle.walk.specs.declared.Piece.TheVariants.{Done as Took}
 use Rattle.walk.specs.declared.Task.{Task}
 use Rattle.walk.proofs.LetRuns.{each_none}
+use Rattle.walk.specs.RuleAnswers.{piece_of}
 
 -- the bindings and patterns that are left, what is made of the others, and the rest of the run
 pub record Mid {old : Bytes} {count aside held : ℕ} {t : Task} {owning : Bool} (p : AllReady old count aside held t owning) (rest : List Binding) (patterns : List Pattern) (mem : Bytes) (at to pattern sum c i : ℕ) : Type 0 where
@@ -83,11 +83,11 @@ module _ {old : Bytes} {count aside held : ℕ} {t : Task} {owning : Bool} (p : 
 
   module _ {mem : Bytes} {at to pattern sum c i : ℕ} where
     -- after the last
-    pub loop_ends : Looping p mem at to pattern sum c i → count ≤ i → AllBound old mem count aside held t owning p (Took at (to - t.free) sum c)
+    pub loop_ends : Looping p mem at to pattern sum c i → count ≤ i → AllBound old mem count aside held t owning p (piece_of at (to - t.free) sum c)
     unfolding joined with_patterns
     loop_ends w le = go w.rest w.patterns w.mid
       where
-        go : (rest : List Binding) (patterns : List Pattern) → Mid p rest patterns mem at to pattern sum c i → AllBound old mem count aside held t owning p (Took at (to - t.free) sum c)
+        go : (rest : List Binding) (patterns : List Pattern) → Mid p rest patterns mem at to pattern sum c i → AllBound old mem count aside held t owning p (piece_of at (to - t.free) sum c)
         go (x ∷ more) qs v = absurd (omega (arith, v.many))
         go [] (q ∷ qs) v = absurd (omega (arith, v.chosen.many))
         go [] [] v =

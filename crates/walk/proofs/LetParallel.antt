@@ -19,7 +19,6 @@ use Rattle.records.specs.Valid.{ValidPattern, IsLet, binding_lambda_depth}
 use Rattle.records.specs.Views.{SeesLet}
 use Rattle.records.specs.declared.LetView.{LetView}
 use Rattle.records.specs.declared.Step.{Step}
-use Rattle.records.specs.declared.Step.TheVariants.{Refused}
 use Rattle.records.proofs.Lists.{list_count}
 use Rattle.walk.specs.Arena.{MapAt, outcome}
 use Rattle.walk.specs.Bodyforms.{rename_args_bodyform, rename_args_let, walk}
@@ -30,14 +29,17 @@ use Rattle.walk.specs.Room.{room}
 use Rattle.walk.specs.Scopes.{with_patterns, PatternsReady, PatternsDrawn, drew, stopped, DrawsPatterns, LetBindings}
 use Rattle.walk.specs.Steps.{M, ◌>>=◌, step, body_size}
 use Rattle.walk.specs.Walking.{rule, Fine, ParallelReady, Walks, let_aside, count_of}
-use Rattle.walk.specs.declared.Drawn.{Drawn}
-use Rattle.walk.specs.declared.Drawn.TheVariants.{Done as Drew, Refused as Undrawn}
+use Rattle.walk.specs.declared.Made.{Made}
 use Rattle.walk.specs.declared.Task.{Task}
 use Rattle.walk.proofs.LetKinds.{needs_are, binder}
 use Rattle.walk.proofs.LetLaws.{Let, Seen, seen}
 use Rattle.walk.proofs.RunLaws.{own_step}
 use Rattle.walk.proofs.Unique.{tells_of, unique_fine}
 use Rattle.walk.proofs.Wholes.{refused_gives}
+use Rattle.std.specs.declared.result.Result.{Result}
+use Rattle.std.specs.declared.result.Result.TheVariants.{Err}
+use Rattle.walk.specs.RuleAnswers.{made_with}
+use Rattle.walk.proofs.RuleAnswers.{made_same}
 
 -- fine bindings are valid
 each_valid : (F d : ℕ) (bs : List Binding) → Each (FineBinding F d) bs → Each ValidBinding bs
@@ -59,16 +61,17 @@ record Drawings (F : ℕ) (bs : List Binding) (new : Bytes) (aside count c s len
   beside : length (joined pattern_field ps) + len ≤ let_aside F count
   counter : c' ≤ c + patterns_of bs
 
-drawings : {F : ℕ} {bs : List Binding} {new : Bytes} {aside count c : ℕ} {r : Drawn} (a s len c' : ℕ) → r ≡ Drew a s len c' → PatternsDrawn F bs new aside count c r → Drawings F bs new aside count c s len c'
+drawings : {F : ℕ} {bs : List Binding} {new : Bytes} {aside count c : ℕ} {r : Result Made Refusal} (a s len c' : ℕ) → r ≡ made_with a s len c' → PatternsDrawn F bs new aside count c r → Drawings F bs new aside count c s len c'
 drawings a s len c' e (drew m ps n d x l v g q mp th xf lo be co) =
-    let e₁ : n ≡ len = cc in
-    let e₂ : d ≡ c' = cc in
-    let e₃ : x ≡ s = cc in
+    let same = made_same (sym q ∙ e) in
+    let e₁ : n ≡ len = same.2 in
+    let e₂ : d ≡ c' = same.3 in
+    let e₃ : x ≡ s = same.1 in
     record { m = m; ps = ps; many = l; valid = v; goes_on = λ k. rw (e₂, e₃) at (g k); map = rw e₁ at mp; there = th; within = omega arith; long = omega arith; beside = omega arith; counter = omega arith }
 drawings a s len c' e (stopped z g q) = let y : ◌≡◌ {A = ℕ} 0 1 = cc in absurd (omega arith)
 
 -- what a refusal says
-undrawn : {F : ℕ} {bs : List Binding} {new : Bytes} {aside count c : ℕ} {r : Drawn} (z : Refusal) → r ≡ Undrawn z → PatternsDrawn F bs new aside count c r
+undrawn : {F : ℕ} {bs : List Binding} {new : Bytes} {aside count c : ℕ} {r : Result Made Refusal} (z : Refusal) → r ≡ Err z → PatternsDrawn F bs new aside count c r
     → (k : NameMap × List Binding → M Body) → outcome ((make_bindings_unique F [] bs >>= k) c 0) ≡ refuses z
 undrawn z e (drew m ps n d x l v g q mp th xf lo be co) k = let y : ◌≡◌ {A = ℕ} 0 1 = cc in absurd (omega arith)
 undrawn z e (stopped y g q) k = let a : y ≡ z = cc in rw a at (g k)
@@ -142,7 +145,7 @@ module _ {t : Task} {mem : Bytes} {v : LetView} (x : SeesLet mem v) (p : Paralle
   patterns_ready = record { bs = bs; stand = stand; room = omega (arith, en, wide); counts = omega (arith, p.counts, draws); longest = p.longest }
 
   -- the patterns are drawn
-  module _ {mid : Bytes} {r : Drawn} (g : DrawsPatterns mem mid v.first v.count (length mem - n) t r) where
+  module _ {mid : Bytes} {r : Result Made Refusal} (g : DrawsPatterns mem mid v.first v.count (length mem - n) t r) where
     -- the run
     abbrev run : M Body
     run = rename_args_let t.f (walk t.f (t.depth - 1)) here.l here.w here.h bs here.b
@@ -154,19 +157,19 @@ module _ {t : Task} {mem : Bytes} {v : LetView} (x : SeesLet mem v) (p : Paralle
         ap (λ (b : Body). outcome (rule t.f true t.depth p.m b t.counter 0)) tree_is ∙ own_step t.f t.depth p.m tree t.counter (omega (arith, z.level))
 
     -- what is answered
-    answers : {end : Bytes} {o : Step} → SameOutside mem end t.free (length mem) → Gives body_bytes end t.free (length (body_bytes p.tree)) (outcome (step t.f body_size run t.counter 0)) o
+    answers : {end : Bytes} {o : Result Step Refusal} → SameOutside mem end t.free (length mem) → Gives body_bytes end t.free (length (body_bytes p.tree)) (outcome (step t.f body_size run t.counter 0)) o
         → Walks (IsLet Parallel) true mem end t o
     answers {end} {o} f h =
         tells_of unique_fine p (same_wider t.free (length mem - t.map) (omega arith) (omega (arith, p.lone refl)) f)
         (subst (λ (a : Outcome Body). Gives body_bytes end t.free (length (body_bytes p.tree)) a o) (sym own_run) h)
 
     -- a pattern is refused
-    pub patterns_refused : (q : Refusal) → r ≡ Undrawn q → Walks (IsLet Parallel) true mem mid t (Refused q)
+    pub patterns_refused : (q : Refusal) → r ≡ Err q → Walks (IsLet Parallel) true mem mid t (Err q)
     unfolding rename_args_let
     patterns_refused q e =
         answers (same_wider t.free (length mem) (omega (arith, wide)) (omega arith) g.frame) (refused_gives t.f run t.counter (undrawn q e (g.says bs stand) _) refl)
 
-    module _ (a s len c : ℕ) (e : r ≡ Drew a s len c) where
+    module _ (a s len c : ℕ) (e : r ≡ made_with a s len c) where
       -- what was drawn
       drawn : Drawings t.f bs mid (length mem - n) v.count t.counter s len c
       drawn = drawings a s len c e (g.says bs stand)
@@ -204,7 +207,7 @@ module _ {t : Task} {mem : Bytes} {v : LetView} (x : SeesLet mem v) (p : Paralle
           }
 
       -- what is answered then
-      pub parallel_done : {end : Bytes} {o : Step} → WalksPatterned mid end v.first v.count (length mem - n) s task o → Walks (IsLet Parallel) true mem end t o
+      pub parallel_done : {end : Bytes} {o : Result Step Refusal} → WalksPatterned mid end v.first v.count (length mem - n) s task o → Walks (IsLet Parallel) true mem end t o
       unfolding patterned_ready rename_args_let patterned_run
       parallel_done {end} {o} h =
           let d = h patterned_ready in

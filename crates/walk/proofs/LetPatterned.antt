@@ -15,7 +15,6 @@ use Rattle.records.specs.Depth.{binding_depth, list_depth}
 use Rattle.records.specs.Lists.{joined}
 use Rattle.records.specs.Records.{Parallel, Pattern, pattern_field, Body, BL, body_bytes, Binding, BB, binding_bytes, to_bindings, list_of}
 use Rattle.records.specs.declared.Step.{Step}
-use Rattle.records.specs.declared.Step.TheVariants.{Refused}
 use Rattle.walk.specs.Arena.{outcome}
 use Rattle.walk.specs.Bodyforms.{each_binding_body, args_then_in, walk}
 use Rattle.walk.specs.Draws.{atoms, inside_of, dbl}
@@ -25,13 +24,15 @@ use Rattle.walk.specs.Scopes.{with_pattern, with_patterns}
 use Rattle.walk.specs.Steps.{M, ◌>>=◌, ret}
 use Rattle.walk.specs.Walking.{AnyBody, Leads, BothReady, WalksBoth, Finishes}
 use Rattle.walk.specs.declared.Piece.{Piece}
-use Rattle.walk.specs.declared.Piece.TheVariants.{Done as Took, Refused as Stopped}
 use Rattle.walk.specs.declared.Task.{Task}
 use Rattle.walk.proofs.LetLaws.{Let, let_parts, let_head, let_made, heads_are, tens_short, half_frame, half_head, half_out, half_last}
 use Rattle.walk.proofs.LetRuns.{each_counter}
 use Rattle.walk.proofs.MapLaws.{no_map}
 use Rattle.walk.proofs.OnParts.{from, rejoin}
 use Rattle.walk.proofs.Wholes.{from_length, whole_frame, whole_leads, map_from, Led, took, halted, finished_gives, refused_gives}
+use Rattle.std.specs.declared.result.Result.{Result}
+use Rattle.std.specs.declared.result.Result.TheVariants.{Err}
+use Rattle.walk.specs.RuleAnswers.{piece_of}
 
 -- other patterns change neither depth nor the atoms of the bodies
 with_inside : (ps : List Pattern) (bs : List Binding) → length ps ≡ length bs → inside_of (with_patterns ps bs) ≡ inside_of bs
@@ -128,7 +129,7 @@ module _ {mem : Bytes} {first count aside sum : ℕ} {t : Task} (p : PatternedRe
         }
 
     -- the bindings are done
-    module _ {y : Bytes} {r : Piece} (g : BindsAll (from mid first) y count (aside - first) sum all_task true r) where
+    module _ {y : Bytes} {r : Result Piece Refusal} (g : BindsAll (from mid first) y count (aside - first) sum all_task true r) where
       -- memory then
       abbrev then : Bytes
       then = rejoin mid first y
@@ -156,7 +157,7 @@ module _ {mem : Bytes} {first count aside sum : ℕ} {t : Task} (p : PatternedRe
       then_frame = same_wider t.free aside (omega arith) (omega (arith, p.room, low)) (half_frame parts low f (aside - first) far wide_top bound_frame)
 
       -- a binding is refused
-      pub bindings_refused : (q : Refusal) → r ≡ Stopped q → Patterned mem then first count aside sum t p (Refused q)
+      pub bindings_refused : (q : Refusal) → r ≡ Err q → Patterned mem then first count aside sum t p (Err q)
       unfolding patterned_run
       bindings_refused q e =
           record {
@@ -165,7 +166,7 @@ module _ {mem : Bytes} {first count aside sum : ℕ} {t : Task} (p : PatternedRe
           }
 
       -- what they became
-      module _ (i w s c : ℕ) (e : r ≡ Took i w s c) where
+      module _ (i w s c : ℕ) (e : r ≡ piece_of i w s c) where
         -- their result
         half : Led (joined binding_bytes) (MadeBindings count sum (heads p.ps bs) t.f) t.f y t.free (length (joined binding_bytes bs)) (each_binding_body t.f (walk t.f (t.depth - 1)).args_bodyform all) t.counter sum i w s c
         half = took i w s c e leads
@@ -188,7 +189,7 @@ module _ {mem : Bytes} {first count aside sum : ℕ} {t : Task} (p : PatternedRe
 
         -- what the body is given
         abbrev body_task : Task
-        body_task = record { free = t.free + first + w - q; map = t.map; f = t.f; depth = t.depth - 1; counter = c }
+        body_task = record { free = t.free + (first + w) - q; map = t.map; f = t.f; depth = t.depth - 1; counter = c }
 
         -- how far the counter has come
         counter_bound : c ≤ t.counter + dbl (t.depth - 1) (inside_of bs)
@@ -217,18 +218,18 @@ module _ {mem : Bytes} {first count aside sum : ℕ} {t : Task} (p : PatternedRe
             }
 
         -- its body is done
-        module _ {y₂ : Bytes} {r₂ : Piece} (g₂ : WalksBoth (from then q) y₂ s body_task r₂) where
+        module _ {y₂ : Bytes} {r₂ : Result Piece Refusal} (g₂ : WalksBoth (from then q) y₂ s body_task r₂) where
           -- memory then
           abbrev end : Bytes
           end = rejoin then q y₂
 
           -- the result of the body has room
-          fit₂ : q + (t.free + first + w - q) + t.map ≤ length then
+          fit₂ : q + body_task.free + t.map ≤ length then
           fit₂ = omega (arith, past, written, then_frame.size)
 
           -- what the body changed
           body_frame : SameOutside then end (t.free + first + w) (length then - t.map)
-          body_frame = same_wider (t.free + first + w) (length then - t.map) (omega (arith, past)) (omega arith) (whole_frame then q (t.free + first + w - q) t.map fit₂ g₂.frame)
+          body_frame = same_wider (t.free + first + w) (length then - t.map) (omega (arith, past)) (omega arith) (whole_frame then q body_task.free t.map fit₂ g₂.frame)
 
           -- what has changed
           pub end_frame : SameOutside mem end t.free (length mem)
@@ -239,7 +240,7 @@ module _ {mem : Bytes} {first count aside sum : ℕ} {t : Task} (p : PatternedRe
           unfolding both_ready
           body_leads =
               let k = both_ready.ready in
-              whole_leads then q (t.free + first + w - q) t.map fit₂ g₂.frame (t.free + first + w) (omega (arith, past)) (g₂.says k.m k.map k.tree k.there k.below k.good)
+              whole_leads then q body_task.free t.map fit₂ g₂.frame (t.free + first + w) (omega (arith, past)) (g₂.says k.m k.map k.tree k.there k.below k.good)
 
           -- how the run ends
           abbrev last : Body → M Body
@@ -251,10 +252,10 @@ module _ {mem : Bytes} {first count aside sum : ℕ} {t : Task} (p : PatternedRe
           run_is = half.goes_on (λ bs'. args_then_in t.f (walk t.f (t.depth - 1)) p.m p.b >>= λ b'. ret (BL Parallel p.l p.k p.h (to_bindings bs') b'))
 
           -- the body is refused
-          pub body_refused : (n : Refusal) → r₂ ≡ Stopped n → Patterned mem end first count aside sum t p (Refused n)
+          pub body_refused : (n : Refusal) → r₂ ≡ Err n → Patterned mem end first count aside sum t p (Err n)
           body_refused n e = record { frame = end_frame; gives = λ run c₀ h. refused_gives t.f run c₀ (h ∙ run_is ∙ halted n e body_leads last) refl }
 
-          module _ (j a x d : ℕ) (e₂ : r₂ ≡ Took j a x d) where
+          module _ (j a x d : ℕ) (e₂ : r₂ ≡ piece_of j a x d) where
             -- its result
             given : Led body_bytes AnyBody t.f end (t.free + first + w) (length (body_bytes p.b)) (args_then_in t.f (walk t.f (t.depth - 1)) p.m p.b) c s j a x d
             given = took j a x d e₂ body_leads
@@ -264,7 +265,7 @@ module _ {mem : Bytes} {first count aside sum : ℕ} {t : Task} (p : PatternedRe
             body_sizes = (omega (arith, given.read, past), omega (arith, given.wrote, given.out.fits, end_frame.size))
 
             -- the let is finished
-            pub let_finished : {o : Step} → Finishes (q + j) (first + w + a) t.f d o → Patterned mem end first count aside sum t p o
+            pub let_finished : {o : Result Step Refusal} → Finishes (q + j) (first + w + a) t.f d o → Patterned mem end first count aside sum t p o
             unfolding outcome ret
             let_finished {o} fin =
                 let us = half.u in

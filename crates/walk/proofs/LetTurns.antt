@@ -17,7 +17,6 @@ use Rattle.records.specs.Parts.{Past, pattern_part}
 use Rattle.records.specs.Records.{pattern_field, Body, body_bytes, Binding, BB, binding_bytes}
 use Rattle.records.specs.Valid.{ValidPattern, BindingFields}
 use Rattle.records.specs.declared.Step.{Step}
-use Rattle.records.specs.declared.Step.TheVariants.{Done, Refused}
 use Rattle.walk.specs.Arena.{outcome}
 use Rattle.walk.specs.Bodyforms.{each_binding_body}
 use Rattle.walk.specs.Draws.{atoms, inside_of, dbl}
@@ -26,7 +25,6 @@ use Rattle.walk.specs.Room.{room}
 use Rattle.walk.specs.Scopes.{with_pattern, with_patterns}
 use Rattle.walk.specs.Steps.{M, ◌>>=◌, over_long}
 use Rattle.walk.specs.Walking.{rule, stopped}
-use Rattle.walk.specs.declared.Piece.TheVariants.{Refused as Stopped}
 use Rattle.walk.specs.declared.Task.{Task}
 use Rattle.walk.proofs.Joined.{joined_more}
 use Rattle.walk.proofs.LetHeads.{locs, locs_length, head_own, head_length, own_length, binding_is}
@@ -36,6 +34,9 @@ use Rattle.walk.proofs.Results.{rule_draws, rule_short}
 use Rattle.walk.proofs.RunLaws.{then_same}
 use Rattle.walk.proofs.Sizes.{dbl_add}
 use Rattle.walk.proofs.LetMiddle.{Looping, Mid, Turn}
+use Rattle.std.specs.declared.result.Result.{Result}
+use Rattle.std.specs.declared.result.Result.TheVariants.{Err}
+use Rattle.records.specs.StepAnswer.{step_of}
 
 -- one turn
 module _ {old : Bytes} {count aside held : ℕ} {t : Task} {owning : Bool} {p : AllReady old count aside held t owning} {mem : Bytes} {at to pattern sum c i : ℕ}
@@ -208,7 +209,7 @@ module _ {old : Bytes} {count aside held : ℕ} {t : Task} {owning : Bool} {p : 
           }
 
       -- its body is done
-      module _ {new : Bytes} {r : Step} (binds : Binds mid new body aside task owning r) where
+      module _ {new : Bytes} {r : Result Step Refusal} (binds : Binds mid new body aside task owning r) where
         -- what its body answers
         abbrev s : BodyBound mid new body aside task owning bind_ready r
         s = binds bind_ready
@@ -234,7 +235,7 @@ module _ {old : Bytes} {count aside held : ℕ} {t : Task} {owning : Bool} {p : 
         run_is k = m.runs k
 
         -- its body is refused
-        pub turn_refused : (z : Refusal) → r ≡ Refused z → AllBound old new count aside held t owning p (Stopped z)
+        pub turn_refused : (z : Refusal) → r ≡ Err z → AllBound old new count aside held t owning p (Err z)
         turn_refused z e =
             let g = unmade z e one_gives in
             record {
@@ -242,7 +243,7 @@ module _ {old : Bytes} {count aside held : ℕ} {t : Task} {owning : Bool} {p : 
               leads = stopped z (λ k. run_is k ∙ each_refuses t.f owning t.depth p.m u.x u.q (with_patterns u.qs u.more) (λ us. k (m.made ++ us)) c sum g) refl;
             }
 
-        module _ (j w' d : ℕ) (e : r ≡ Done j w' d) where
+        module _ (j w' d : ℕ) (e : r ≡ step_of j w' d) where
           -- its result
           given : Given body_bytes new (to + n) (length (body_bytes b)) (outcome (rule t.f owning t.depth p.m b c 0)) j w' d
           given = was_made j w' d e one_gives
@@ -260,7 +261,7 @@ module _ {old : Bytes} {count aside held : ℕ} {t : Task} {owning : Bool} {p : 
           turn_short = let g = given in omega (arith, g.wrote, rule_short t.f owning t.depth p.m b c g.is)
 
           -- the sum is too long
-          pub turn_over : (z : Refusal) → z ≡ over_long → t.f < sum + w' → AllBound old new count aside held t owning p (Stopped z)
+          pub turn_over : (z : Refusal) → z ≡ over_long → t.f < sum + w' → AllBound old new count aside held t owning p (Err z)
           turn_over z q lt =
               let g = given in
               record {

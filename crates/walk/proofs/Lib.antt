@@ -28,6 +28,7 @@ pub mod VisitsOfForms
 pub mod Demand
 pub mod Atoms
 pub mod Sizes
+pub mod RuleAnswers
 pub mod RunBounds
 pub mod Limits
 pub mod LimitsOfForms

@@ -14,7 +14,6 @@ use Rattle.records.specs.Records.{Helpers, helpers_bytes, helpers_count}
 use Rattle.walk.specs.Arena.{MapAt}
 use Rattle.walk.specs.FormWalks.{FineHelpers, helpers_by, ComesOut, came, stayed, HelpersReady, WalksHelpers, RestReady, WalksRest}
 use Rattle.walk.specs.declared.Piece.{Piece}
-use Rattle.walk.specs.declared.Piece.TheVariants.{Done as Took, Refused as Stopped}
 use Rattle.walk.specs.declared.Rest.TheVariants.{Listed}
 use Rattle.walk.specs.declared.Task.{Task}
 use Rattle.walk.specs.declared.Way.{Way}
@@ -23,6 +22,9 @@ use Rattle.walk.proofs.OnParts.{from, rejoin}
 use Rattle.walk.proofs.RestLaws.{unique_rest, HelpersMade, helpers_made}
 use Rattle.walk.proofs.Unique.{tells_of}
 use Rattle.walk.proofs.Wholes.{from_length, whole_frame, map_from, took_is}
+use Rattle.std.specs.declared.result.Result.{Result}
+use Rattle.std.specs.declared.result.Result.TheVariants.{Err}
+use Rattle.walk.specs.RuleAnswers.{piece_of}
 
 module _ {way : Way} {mem : Bytes} {sum : ℕ} {t : Task} (p : RestReady Listed way mem sum t) where
   -- the helpers
@@ -86,7 +88,7 @@ module _ {way : Way} {mem : Bytes} {sum : ℕ} {t : Task} (p : RestReady Listed 
         taken = p.taken;
       }
 
-  module _ {y : Bytes} {r : Piece} (s : WalksHelpers way (from counted 1) y count sum t r) where
+  module _ {y : Bytes} {r : Result Piece Refusal} (s : WalksHelpers way (from counted 1) y count sum t r) where
     -- memory after them
     abbrev end : Bytes
     end = rejoin counted 1 y
@@ -110,10 +112,10 @@ module _ {way : Way} {mem : Bytes} {sum : ℕ} {t : Task} (p : RestReady Listed 
     told = whole_comes counted 1 t.free t.map fits s.frame (1 + t.free) refl (s.says p.ready.m part_map hs (into here) (omega (arith, p.ready.below)) fine)
 
     -- one is refused
-    pub listed_refused : (q : Refusal) → r ≡ Stopped q → WalksRest Listed way mem end sum t (Stopped q)
+    pub listed_refused : (q : Refusal) → r ≡ Err q → WalksRest Listed way mem end sum t (Err q)
     listed_refused q e = tells_of (unique_rest Listed t.f t.depth) p.ready all_frame (stayed q (stayed_as q e told) refl)
 
-    module _ (i w x c : ℕ) (e : r ≡ Took i w x c) where
+    module _ (i w x c : ℕ) (e : r ≡ piece_of i w x c) where
       -- they are done
       got : Came helpers_bytes t.f end (1 + t.free) (length (helpers_bytes hs)) (helpers_by t.f way t.depth p.ready.m hs) t.counter sum i w x c
       got = came_as i w x c e told
@@ -127,7 +129,7 @@ module _ {way : Way} {mem : Bytes} {sum : ℕ} {t : Task} (p : RestReady Listed 
       listed_sums = (omega (arith, got.read, p.ready.below), omega (arith, got.wrote, got.out.fits, all_frame.size))
 
       -- all are made
-      pub listed_done : WalksRest Listed way mem end sum t (Took (1 + i) (1 + w) x c)
+      pub listed_done : WalksRest Listed way mem end sum t (piece_of (1 + i) (1 + w) x c)
       listed_done =
           let us = got.u in
           let tag = subst (λ (n : ℕ). At end t.free (n ∷ [])) (sym many ∙ sym known.many) (at_below behind_frame count_at (omega arith)) in

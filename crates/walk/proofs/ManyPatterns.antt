@@ -28,7 +28,7 @@ use Rattle.walk.specs.Scopes.{with_pattern, with_patterns, PatternsReady, Patter
 use Rattle.walk.specs.Steps.{M, ◌>>=◌}
 use Rattle.walk.specs.Walking.{let_aside}
 use Rattle.walk.specs.declared.Drawn.{Drawn}
-use Rattle.walk.specs.declared.Drawn.TheVariants.{Done, Refused}
+use Rattle.walk.specs.declared.Made.{Made}
 use Rattle.walk.specs.declared.Task.{Task}
 use Rattle.walk.proofs.Joined.{joined_more, joined_both, each_more, each_rest, none_joined}
 use Rattle.walk.proofs.LetLaws.{aside_other}
@@ -39,6 +39,10 @@ use Rattle.walk.proofs.Results.{counter_least}
 use Rattle.walk.proofs.RunLaws.{ret_then, then_same}
 use Rattle.walk.proofs.Unique.{unique_bindings}
 use Rattle.walk.proofs.PatternRuns.{BindingHere, PatternTakes, aside_four, binding_here, bindings_step, bindings_stop, more_patterns, pattern_takes}
+use Rattle.std.specs.declared.result.Result.{Result}
+use Rattle.std.specs.declared.result.Result.TheVariants.{Err}
+use Rattle.walk.specs.RuleAnswers.{drawn_of, made_with}
+use Rattle.walk.proofs.RuleAnswers.{drawn_same}
 
 -- so far: the bindings that are done, their new patterns from `aside` on up to `to`, and their joined map; the bindings that are left, from `at` on
 pub record Drawing (old mem : Bytes) (first count aside : ℕ) (t : Task) (at to sum map c i : ℕ) : Type 0 where
@@ -103,7 +107,7 @@ module _ {old mem : Bytes} {first count aside : ℕ} {t : Task} {at to sum map c
       omega (arith, ap (λ (x : List Binding). length (joined binding_bytes x)) d.split, ap length (joined_both binding_bytes d.ds d.rest), length-append (joined binding_bytes d.ds) (joined binding_bytes d.rest))
 
   -- what is answered at the end
-  answers : {new : Bytes} {r : Drawn} → SameOutside old new aside (length old) → PatternsDrawn F d.ready.bs new aside count t.counter r → DrawsPatterns old new first count aside t r
+  answers : {new : Bytes} {r : Result Made Refusal} → SameOutside old new aside (length old) → PatternsDrawn F d.ready.bs new aside count t.counter r → DrawsPatterns old new first count aside t r
   answers {new} {r} w a = record {
     frame = w;
     says = λ bs s. subst (λ (x : List Binding). PatternsDrawn F x new aside count t.counter r)
@@ -122,17 +126,17 @@ module _ {old mem : Bytes} {first count aside : ℕ} {t : Task} {at to sum map c
         d.goes_on k ∙ ap (λ (x : List Binding). outcome ((make_bindings_unique F d.m x >>= after) c sum)) e ∙ ret_then after (d.m, []) c sum
         ∙ ap (λ (x : List Binding). outcome (k (d.m, x) c sum)) (append-nil (with_patterns d.ps d.ds)) ∙ ap (λ (x : List Binding). outcome (k (d.m, with_patterns d.ps x) c sum)) all_done
 
-    ended : DrawsPatterns old mem first count aside t (Done (to - aside) sum map c)
+    ended : DrawsPatterns old mem first count aside t (made_with (to - aside) sum map c)
     ended =
         let n : to - aside ≡ length (joined pattern_field d.ps) = omega (arith, d.to_is) in
         answers d.frame
-        (drew d.m d.ps map c sum (d.many ∙ ap length all_done) d.valid last_run (ap (λ (x : ℕ). Done x sum map c) n) d.map_at d.out d.within (omega (arith, d.long, all_bytes)) d.fits
+        (drew d.m d.ps map c sum (d.many ∙ ap length all_done) d.valid last_run (ap (λ (x : ℕ). made_with x sum map c) n) d.map_at d.out d.within (omega (arith, d.long, all_bytes)) d.fits
         (omega (arith, d.counted)))
 
-  pub drawing_ends : count ≤ i → DrawsPatterns old mem first count aside t (Done (to - aside) sum map c)
+  pub drawing_ends : count ≤ i → DrawsPatterns old mem first count aside t (made_with (to - aside) sum map c)
   drawing_ends le = go d.rest refl
     where
-      go : (rest : List Binding) → d.rest ≡ rest → DrawsPatterns old mem first count aside t (Done (to - aside) sum map c)
+      go : (rest : List Binding) → d.rest ≡ rest → DrawsPatterns old mem first count aside t (made_with (to - aside) sum map c)
       go [] e = ended e
       go (b ∷ bs) e = absurd (omega (arith, all_length, ap length e, d.ready.stand.many))
 
@@ -249,7 +253,7 @@ module _ {old mem : Bytes} {first count aside : ℕ} {t : Task} {at to sum map c
     }
 
     -- it is drawn for, or refused
-    module _ {y : Bytes} {r : Drawn} (q : DrawsPattern lent y (to - start) left c r) where
+    module _ {y : Bytes} {r : Result Drawn Refusal} (q : DrawsPattern lent y (to - start) left c r) where
       abbrev new : Bytes
       new = back mem start (top - start) y
 
@@ -275,7 +279,7 @@ module _ {old mem : Bytes} {first count aside : ℕ} {t : Task} {at to sum map c
           ≡ outcome ((make_bindings_unique t.f d.m (BB n.l n.nl n.p n.b ∷ n.more) >>= onto k) c sum)
       so_far k = d.goes_on k ∙ ap (λ (x : List Binding). outcome ((make_bindings_unique t.f d.m x >>= onto k) c sum)) n.is
 
-      pub next_stopped : (z : Refusal) → r ≡ Refused z → DrawsPatterns old new first count aside t (Refused z)
+      pub next_stopped : (z : Refusal) → r ≡ Err z → DrawsPatterns old new first count aside t (Err z)
       next_stopped z e = answers d old_frame (stopped z (λ k. so_far k ∙ bindings_stop t.f d.m n.l n.nl n.p n.b n.more (onto k) z c sum (go answer)) refl)
         where
           go : PatternDrawn n.p y (to - start) left c r → (next : NameMap × Pattern → M Body) → outcome ((make_binding_unique t.f n.p >>= next) c sum) ≡ refuses z
@@ -293,14 +297,15 @@ module _ {old mem : Bytes} {first count aside : ℕ} {t : Task} {at to sum map c
         read : a ≡ length (pattern_field n.p)
         wrote : w ≡ length (pattern_field u)
 
-      module _ (a w len e : ℕ) (is : r ≡ Done a w len e) where
+      module _ (a w len e : ℕ) (is : r ≡ drawn_of a w len e) where
         got : Got a w len e
         got = go answer
           where
             go : PatternDrawn n.p y (to - start) left c r → Got a w len e
             go (pattern_drew m u len' c' g runs at out z) =
-                let x : len' ≡ len = cc in
-                let v : c' ≡ e = cc in
+                let same = drawn_same (sym is ∙ z) in
+                let x : len' ≡ len = sym same.2 in
+                let v : c' ≡ e = sym same.3 in
                 record {
                   u = u;
                   more_map = m;
@@ -308,8 +313,8 @@ module _ {old mem : Bytes} {first count aside : ℕ} {t : Task} {at to sum map c
                   runs = λ next. rw v at (runs t.f sum (omega (arith, d.within)) next);
                   map_at = rw x at at;
                   out = out;
-                  read = cc;
-                  wrote = cc;
+                  read = same.0;
+                  wrote = same.1;
                 }
             go (pattern_stopped j runs z) = let x : ◌≡◌ {A = ℕ} 0 1 = cc in absurd (omega arith)
 

@@ -17,7 +17,6 @@ use Rattle.records.specs.StepAnswer.{refuses, Gives}
 use Rattle.records.specs.Limits.{cons_limit}
 use Rattle.records.specs.Records.{Loc, Sexp, sexp_bytes, Complex, Body, body_bytes, Binding, BB}
 use Rattle.records.specs.declared.Step.{Step}
-use Rattle.records.specs.declared.Step.TheVariants.{Done, Refused}
 use Rattle.records.proofs.StepAnswers.{Made as GotOf, made as got_of, unmade}
 use Rattle.walk.specs.Arena.{outcome}
 use Rattle.walk.specs.AssignWalks.{stopped, MakesParts, parts_bytes, FineParts, remaking, naming, RemakeReady, Remakes, NamedReady, MakesNamed, ComplexReady, MakesComplex}
@@ -28,10 +27,7 @@ use Rattle.walk.specs.DrawnMaps.{map_growth, Roomy, Drawable, Grown, Grew, Draws
 use Rattle.walk.specs.Steps.{M, over_long, ◌>>=◌, child, body_size}
 use Rattle.walk.specs.Walking.{rule, AnyBody, BodyReady, Walks}
 use Rattle.walk.specs.declared.Growth.{Growth}
-use Rattle.walk.specs.declared.Invented.{Invented}
-use Rattle.walk.specs.declared.Invented.TheVariants.{Drawn, Refused as Undrawn}
 use Rattle.walk.specs.declared.Made.{Made}
-use Rattle.walk.specs.declared.Made.TheVariants.{Refused as Not}
 use Rattle.walk.specs.declared.Task.{Task}
 use Rattle.walk.proofs.DoneLaws.{then_gives, then_refuses, child_gives, child_over, child_refuses}
 use Rattle.walk.proofs.MakesLaws.{makes_from}
@@ -41,6 +37,9 @@ use Rattle.walk.proofs.RunLaws.{then_then, neutral_rule, neutral_invent}
 use Rattle.walk.proofs.Sizes.{dbl_add, dbl_mono, dbl_least, dbl_twice}
 use Rattle.walk.proofs.Unique.{Unique, same_pair, unique_first, unique_sexp, unique_body, tells_of}
 use Rattle.walk.proofs.Wholes.{cut_frame, cut_gives}
+use Rattle.std.specs.declared.result.Result.{Result}
+use Rattle.std.specs.declared.result.Result.TheVariants.{Ok, Err}
+use Rattle.records.specs.StepAnswer.{step_of}
 
 -- one pattern with its body at most stands at the start
 unique_parts : {F d : ℕ} → Unique parts_bytes (FineParts F d)
@@ -95,7 +94,7 @@ module _ {mem : Bytes} {body sum : ℕ} {t : Task} (p : NamedReady mem body sum 
       }
 
   -- what is answered of the pattern and the body that are known to stand there
-  names : {new : Bytes} {r : Made} → SameOutside mem new t.free (length mem - t.map)
+  names : {new : Bytes} {r : Result Made Refusal} → SameOutside mem new t.free (length mem - t.map)
       → ((l nl : Loc) → MakesParts l nl t.f t.map 0 new t.free (naming t.f (walk t.f t.depth) l nl p.ready.m pattern inside) t.counter sum r) → MakesNamed mem new sum t r
   names f x = tells_of unique_parts p.ready f x
 
@@ -103,7 +102,7 @@ module _ {mem : Bytes} {body sum : ℕ} {t : Task} (p : NamedReady mem body sum 
       ≡ outcome ((child t.f body_size ((walk t.f t.depth).args_bodyform inside) >>= λ o. remaking t.f (walk t.f t.depth) l nl p.ready.m pattern o >>= k) t.counter sum)
   opened l nl k = then_then (child t.f body_size ((walk t.f t.depth).args_bodyform inside)) (remaking t.f (walk t.f t.depth) l nl p.ready.m pattern) k t.counter sum
 
-  module _ {y : Bytes} {r : Step} (s : Walks AnyBody true (part mem body width) y own_task r) where
+  module _ {y : Bytes} {r : Result Step Refusal} (s : Walks AnyBody true (part mem body width) y own_task r) where
     abbrev pub owned : Bytes
     owned = back mem body width y
 
@@ -116,20 +115,20 @@ module _ {mem : Bytes} {body sum : ℕ} {t : Task} (p : NamedReady mem body sum 
         let z = own_ready in
         cut_gives mem body width fit (t.free - body) 0 (omega (arith, own_low, own_cut)) s.frame t.free (omega (arith, own_low)) (s.says [] z.map inside z.there z.below z.good)
 
-    pub own_refused : (k : Refusal) → r ≡ Refused k → MakesNamed mem owned sum t (Not k)
+    pub own_refused : (k : Refusal) → r ≡ Err k → MakesNamed mem owned sum t (Err k)
     own_refused k e =
         names own_frame λ l nl.
         stopped k (λ j. opened l nl j ∙ child_refuses t.f body_size (λ o. remaking t.f (walk t.f t.depth) l nl p.ready.m pattern o >>= j)
         (neutral_rule t.f true t.depth [] inside) t.counter sum (unmade k e gave_own)) refl
 
-    module _ {i w d : ℕ} (e : r ≡ Done i w d) where
+    module _ {i w d : ℕ} (e : r ≡ step_of i w d) where
       got : GotOf body_bytes owned t.free (length (body_bytes inside)) (outcome (rule t.f true t.depth [] inside t.counter 0)) i w d
       got = got_of i w d e gave_own
 
       pub own_short : w ≤ t.f
       own_short = omega (arith, got.wrote, rule_short t.f true t.depth [] inside t.counter got.is)
 
-      pub own_over : {k : Refusal} → k ≡ over_long → t.f < sum + w → MakesNamed mem owned sum t (Not k)
+      pub own_over : {k : Refusal} → k ≡ over_long → t.f < sum + w → MakesNamed mem owned sum t (Err k)
       unfolding body_size
       own_over {k} is lt =
           names own_frame λ l nl.
@@ -162,7 +161,7 @@ module _ {mem : Bytes} {body sum : ℕ} {t : Task} (p : NamedReady mem body sum 
               longest = q.longest;
             }
 
-        pub named_done : {end : Bytes} {q : Made} → Remakes owned end w (sum + w) remake_task q → MakesNamed mem end sum t q
+        pub named_done : {end : Bytes} {q : Result Made Refusal} → Remakes owned end w (sum + w) remake_task q → MakesNamed mem end sum t q
         unfolding remake_ready body_size
         named_done h =
             let z = remake_ready in
@@ -195,7 +194,7 @@ module _ {mem : Bytes} {sum : ℕ} {t : Task} (p : ComplexReady mem sum t) where
   pub drawable : Drawable mem t.map t.counter cons_limit
   drawable = record { t = complex_pattern; room = roomy; deep = p.ready.good.valid.1; m = p.ready.m; map_at = p.ready.map }
 
-  makes : {new : Bytes} {r : Made} → SameOutside mem new t.free (length mem - t.map)
+  makes : {new : Bytes} {r : Result Made Refusal} → SameOutside mem new t.free (length mem - t.map)
       → ((l nl : Loc) → MakesParts l nl t.f (t.map + map_growth * length (sexp_bytes complex_pattern)) 0 new t.free
       (rename_assign_binding t.f (walk t.f t.depth) p.ready.m (BB l nl (Complex complex_pattern) complex_body)) t.counter sum r) → MakesComplex mem new sum t r
   makes f x = tells_of unique_parts p.ready f x
@@ -207,12 +206,12 @@ module _ {mem : Bytes} {sum : ℕ} {t : Task} (p : ComplexReady mem sum t) where
   complex_opened l nl k =
       then_then (invent_new_names_sexp p.ready.m complex_pattern) (λ m. naming t.f (walk t.f t.depth) l nl m complex_pattern complex_body) k t.counter sum
 
-  module _ {a : Bytes} {r : Invented} (s : InventsSexp mem a 0 t.map t.counter r) where
+  module _ {a : Bytes} {r : Result Growth Refusal} (s : InventsSexp mem a 0 t.map t.counter r) where
     said : InventsFrom mem a 0 t.map t.counter complex_pattern p.ready.m r
     said = s complex_pattern roomy p.ready.m p.ready.map
 
     -- a made name is too long
-    pub invent_refused : (k : Refusal) → r ≡ Undrawn k → MakesComplex mem a sum t (Not k)
+    pub invent_refused : (k : Refusal) → r ≡ Err k → MakesComplex mem a sum t (Err k)
     invent_refused k e =
         let f : SameOutside mem a (length mem - (t.map + map_growth * length (sexp_bytes complex_pattern))) (length mem - t.map) =
         subst (Grown mem a t.map (map_growth * length (sexp_bytes complex_pattern))) e said.grown in
@@ -222,7 +221,7 @@ module _ {mem : Bytes} {sum : ℕ} {t : Task} (p : ComplexReady mem sum t) where
         stopped k (λ j. complex_opened l nl j ∙ then_refuses (λ m. naming t.f (walk t.f t.depth) l nl m complex_pattern complex_body >>= j)
         (neutral_invent p.ready.m complex_pattern) t.counter sum (z.runs 0) ∙ ap refuses (sym z.is)) refl
 
-    module _ {g : Growth} (e : r ≡ Drawn g) where
+    module _ {g : Growth} (e : r ≡ Ok g) where
       grew : Grew mem a t.map g
       grew = subst (Grown mem a t.map (map_growth * length (sexp_bytes complex_pattern))) e said.grown
 
@@ -263,7 +262,7 @@ module _ {mem : Bytes} {sum : ℕ} {t : Task} (p : ComplexReady mem sum t) where
             held = p.held;
           }
 
-      pub complex_done : {end : Bytes} {q : Made} → MakesNamed a end sum named_task q → MakesComplex mem end sum t q
+      pub complex_done : {end : Bytes} {q : Result Made Refusal} → MakesNamed a end sum named_task q → MakesComplex mem end sum t q
       unfolding named_ready
       complex_done h =
           let z = named_ready.ready in

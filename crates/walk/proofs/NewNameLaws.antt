@@ -15,7 +15,6 @@ use Rattle.records.specs.Limits.{cons_limit}
 use Rattle.records.specs.Records.{Sexp, sexp_bytes}
 use Rattle.records.specs.Valid.{ValidSexp}
 use Rattle.records.specs.declared.Step.{Step}
-use Rattle.records.specs.declared.Step.TheVariants.{Done as Written, Refused as Unwritten}
 use Rattle.records.proofs.StepAnswers.{unmade}
 use Rattle.walk.specs.Arena.{Substitutes, MapAt, Asks, Held, outcome}
 use Rattle.walk.specs.Invent.{invent_new_names_sexp, rename_in_cons_step}
@@ -24,10 +23,7 @@ use Rattle.walk.specs.NewNames.{names_task, beside, PutsNames, ArgsReady, ArgsDr
 use Rattle.walk.specs.RenameInCons.{rename_in_cons}
 use Rattle.walk.specs.Steps.{M, ◌>>=◌, over_long, child, sexp_size}
 use Rattle.walk.specs.declared.Drawn.{Drawn as Answer}
-use Rattle.walk.specs.declared.Drawn.TheVariants.{Done, Refused as Stopped}
 use Rattle.walk.specs.declared.Growth.{Growth}
-use Rattle.walk.specs.declared.Invented.{Invented}
-use Rattle.walk.specs.declared.Invented.TheVariants.{Drawn, Refused}
 use Rattle.walk.proofs.DoneLaws.{then_gives, then_refuses}
 use Rattle.walk.proofs.Fits.{given, refused_long}
 use Rattle.walk.proofs.Kept.{valid_cons}
@@ -36,6 +32,10 @@ use Rattle.walk.proofs.Results.{limited_named}
 use Rattle.walk.proofs.RunLaws.{neutral_invent}
 use Rattle.walk.proofs.StepLaws.{substitute_gives, substitute_over}
 use Rattle.walk.proofs.Unique.{unique_sexp}
+use Rattle.std.specs.declared.result.Result.{Result}
+use Rattle.std.specs.declared.result.Result.TheVariants.{Ok, Err}
+use Rattle.walk.specs.RuleAnswers.{drawn_of}
+use Rattle.walk.proofs.RuleAnswers.{drawn_same}
 
 -- what a pattern adds to the sum, by its first byte
 pub none_added : (k w : ℕ) → k ≡ 0 → 0 ≡ added k w
@@ -55,20 +55,20 @@ module _ {old : Bytes} {free f c : ℕ} (p : ArgsReady old free f c) where
   args_drawable = record { t = p.s; room = args_roomy; deep = p.valid.1; m = []; map_at = no_map }
 
   -- the answer for the S record that is known to stand there is the answer for every one
-  draws_of : {new : Bytes} {qq : Bool} {r : Answer} → SameOutside old new free (length old) → ArgsDrawn qq p.s new free f c r → DrawsArgs old new free qq f c r
+  draws_of : {new : Bytes} {qq : Bool} {r : Result Answer Refusal} → SameOutside old new free (length old) → ArgsDrawn qq p.s new free f c r → DrawsArgs old new free qq f c r
   draws_of {new} {qq} {r} w a =
       record { frame = w; says = λ s v at. subst (λ (x : Sexp). ArgsDrawn qq x new free f c r) (unique_sexp old p.s s p.valid v p.there at) a }
 
   -- Invent refuses
-  pub args_stopped : {new : Bytes} {o : Invented} (qq : Bool) (q : Refusal) → InventsSexp old new 0 0 c o → o ≡ Refused q → DrawsArgs old new free qq f c (Stopped q)
+  pub args_stopped : {new : Bytes} {o : Result Growth Refusal} (qq : Bool) (q : Refusal) → InventsSexp old new 0 0 c o → o ≡ Err q → DrawsArgs old new free qq f c (Err q)
   args_stopped {new} qq q i e =
-      let j = subst (λ (x : Invented). InventsFrom old new 0 0 c p.s [] x) e (i p.s args_roomy [] no_map) in
+      let j = subst (λ (x : Result Growth Refusal). InventsFrom old new 0 0 c p.s [] x) e (i p.s args_roomy [] no_map) in
       draws_of (same_wider free (length old) (omega (arith, p.below, p.room)) (omega arith) j.grown) (args_refused q (j.draws.runs 0 ∙ ap refuses (sym j.draws.is)) refl)
 
   -- Invent gives a map
-  module _ {mid : Bytes} {o : Invented} (g : Growth) (i : InventsSexp old mid 0 0 c o) (e : o ≡ Drawn g) where
-    args_invented : InventsFrom old mid 0 0 c p.s [] (Drawn g)
-    args_invented = subst (λ (x : Invented). InventsFrom old mid 0 0 c p.s [] x) e (i p.s args_roomy [] no_map)
+  module _ {mid : Bytes} {o : Result Growth Refusal} (g : Growth) (i : InventsSexp old mid 0 0 c o) (e : o ≡ Ok g) where
+    args_invented : InventsFrom old mid 0 0 c p.s [] (Ok g)
+    args_invented = subst (λ (x : Result Growth Refusal). InventsFrom old mid 0 0 c p.s [] x) e (i p.s args_roomy [] no_map)
 
     kept_there : At mid 0 (sexp_bytes p.s)
     kept_there = at_below args_invented.grown.frame p.there (omega (arith, args_invented.draws.at_most, p.below, p.room))
@@ -86,20 +86,20 @@ module _ {old : Bytes} {free f c : ℕ} (p : ArgsReady old free f c) where
 
     module _ {new : Bytes} {qq : Bool} where
       -- Substitute has written its result, or refused it
-      written : {r : Answer} (o : Step) → Substitutes (rename_in_cons qq) mid new (names_task free f g) o → r ≡ beside g.len o → ArgsDrawn qq p.s new free f c r
-      written (Written i j d) w is =
+      written : {r : Result Answer Refusal} (o : Result Step Refusal) → Substitutes (rename_in_cons qq) mid new (names_task free f g) o → r ≡ beside g.len o → ArgsDrawn qq p.s new free f c r
+      written (Ok o) w is =
           let m = args_invented.draws.value in
           let u = rename_in_cons qq m p.s in
-          let x = given f g.counter u i j d refl (w.says m args_invented.draws.map_at p.s kept_there p.below p.valid.0) in
+          let x = given f g.counter u o.read o.written o.counter refl (w.says m args_invented.draws.map_at p.s kept_there p.below p.valid.0) in
           let at = map_after w.frame (omega (arith, args_invented.grown.frame.size, args_invented.draws.at_most, p.room)) args_invented.draws.map_at in
-          args_drew m g.len g.counter (args_invented.draws.runs 0) at (omega (arith, args_invented.draws.at_most)) x.short x.out (is ∙ cc (x.read, x.wrote, x.counter))
-      written (Unwritten q) w is =
+          args_drew m g.len g.counter (args_invented.draws.runs 0) at (omega (arith, args_invented.draws.at_most)) x.short x.out (rw (x.read, x.wrote, x.counter) at is)
+      written (Err q) w is =
           let m = args_invented.draws.value in
           let u = rename_in_cons qq m p.s in
           let x = refused_long sexp_bytes f g.counter u q (unmade q refl (w.says m args_invented.draws.map_at p.s kept_there p.below p.valid.0)) in
-          args_long m g.counter (args_invented.draws.runs 0) x.long (is ∙ ap Stopped x.is)
+          args_long m g.counter (args_invented.draws.runs 0) x.long (is ∙ ap Err x.is)
 
-      pub args_drawn : {r : Answer} → PutsNames mid new free qq f g r → DrawsArgs old new free qq f c r
+      pub args_drawn : {r : Result Answer Refusal} → PutsNames mid new free qq f g r → DrawsArgs old new free qq f c r
       args_drawn w =
           draws_of
           (same_then free (length old) (omega (arith, args_invented.draws.at_most, p.room)) (omega arith) (omega arith) (omega (arith, p.room)) args_invented.grown.frame w.1.frame)
@@ -141,17 +141,18 @@ pub record ArgsGot (qq : Bool) (s : Sexp) (new : Bytes) (free f c i w len d : �
   pub read : i ≡ length (sexp_bytes s)
   pub wrote : w ≡ length (sexp_bytes (rename_in_cons qq m s))
 
-module _ {qq : Bool} {s : Sexp} {new : Bytes} {free f c : ℕ} {r : Answer} where
-  pub args_got : (i w len d : ℕ) → r ≡ Done i w len d → ArgsDrawn qq s new free f c r → ArgsGot qq s new free f c i w len d
+module _ {qq : Bool} {s : Sexp} {new : Bytes} {free f c : ℕ} {r : Result Answer Refusal} where
+  pub args_got : (i w len d : ℕ) → r ≡ drawn_of i w len d → ArgsDrawn qq s new free f c r → ArgsGot qq s new free f c i w len d
   args_got i w len d e (args_drew m len' c' g at small short out is) =
-      let l : len' ≡ len = cc in
-      let k : c' ≡ d = cc in
-      let n : w ≡ length (sexp_bytes (rename_in_cons qq m s)) = cc in
-      record { m = m; runs = rw k at g; map = rw l at at; small = omega arith; short = omega arith; out = out; read = cc; wrote = n }
+      let same = drawn_same (sym e ∙ is) in
+      let l : len' ≡ len = sym same.2 in
+      let k : c' ≡ d = sym same.3 in
+      let n : w ≡ length (sexp_bytes (rename_in_cons qq m s)) = same.1 in
+      record { m = m; runs = rw k at g; map = rw l at at; small = omega arith; short = omega arith; out = out; read = same.0; wrote = n }
   args_got i w len d e (args_long m c' g lt is) = let z : ◌≡◌ {A = ℕ} 0 1 = cc in absurd (omega arith)
   args_got i w len d e (args_refused q g is) = let z : ◌≡◌ {A = ℕ} 0 1 = cc in absurd (omega arith)
 
-  pub args_halted : {B : Type 0} (F x : ℕ) (k : NameMap → Sexp → M B) (q : Refusal) → x + f ≡ F → r ≡ Stopped q → ArgsDrawn qq s new free f c r → outcome (args_then F qq s k c x) ≡ refuses q
+  pub args_halted : {B : Type 0} (F x : ℕ) (k : NameMap → Sexp → M B) (q : Refusal) → x + f ≡ F → r ≡ Err q → ArgsDrawn qq s new free f c r → outcome (args_then F qq s k c x) ≡ refuses q
   args_halted F x k q n e (args_drew m len' c' g at small short out is) = let z : ◌≡◌ {A = ℕ} 0 1 = cc in absurd (omega arith)
   args_halted F x k q n e (args_long m c' g lt is) = let z : over_long ≡ q = cc in args_over F qq s c x k g (omega arith) ∙ ap refuses z
   args_halted F x k q n e (args_refused j g is) = let z : j ≡ q = cc in args_refuse F qq s c x k g ∙ ap refuses z

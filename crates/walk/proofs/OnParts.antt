@@ -14,6 +14,8 @@ use Rattle.records.proofs.StepAnswers.{gives_back}
 use Rattle.walk.specs.Arena.{MapAt, Asks, Says}
 use Rattle.walk.specs.declared.Task.{Task}
 use Rattle.walk.proofs.MapLaws.{map_of_part}
+use Rattle.std.specs.declared.result.Result.{Result}
+use Rattle.names.specs.declared.Refusal.{Refusal}
 
 -- the part from a on, and the whole that it comes back in
 abbrev pub from : Bytes → ℕ → Bytes
@@ -34,7 +36,7 @@ asks_part {xs = xs} {m = m} a x good there below map fit =
     record { tree = x; good = good; there = into there; below = below; m = m; map = map_of_part a (omega arith) map; room = omega arith }
 
 -- what is answered of it
-module _ {A B : Type 0} {bytes : A → Bytes} {Good : A → Type 0} {made : B → Bytes} {rule : NameMap → A → Outcome B} {xs ys : Bytes} {t : Task} {r : Step} (a : ℕ)
+module _ {A B : Type 0} {bytes : A → Bytes} {Good : A → Type 0} {made : B → Bytes} {rule : NameMap → A → Outcome B} {xs ys : Bytes} {t : Task} {r : Result Step Refusal} (a : ℕ)
     (fit : a + t.free + t.f + t.map ≤ length xs) (s : Says bytes Good made rule (from xs a) ys t r) where
   pub part_frame : (lo hi : ℕ) → lo ≤ a + t.free → a + t.free + t.f ≤ hi → SameOutside xs (rejoin xs a ys) lo hi
   part_frame lo hi le₁ le₂ = same_wider lo hi le₁ (omega arith) (same_back xs a (length xs - a) (omega arith) s.frame (omega arith) (omega arith))

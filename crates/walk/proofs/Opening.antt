@@ -12,7 +12,6 @@ use Rattle.names.proofs.Places.{at_left, at_is}
 use Rattle.records.specs.StepAnswer.{Outcome, Gives, gave, refused}
 use Rattle.records.specs.Records.{sexp_bytes}
 use Rattle.records.specs.declared.Step.{Step}
-use Rattle.records.specs.declared.Step.TheVariants.{Done}
 use Rattle.walk.specs.Arena.{outcome}
 use Rattle.walk.specs.Draws.{sexp_atoms, dbl}
 use Rattle.walk.specs.FormWalks.{TreeOf, tree_bytes, tree_size, tree_atoms, tree_rule, FineTree, TreeReady, rest_bytes, rest_atoms, rest_by, FineAfter, FineRenewed, renewed_by}
@@ -29,6 +28,9 @@ use Rattle.walk.proofs.RunLaws.{outcome_after, onward, bind_onward, mapped, step
 use Rattle.walk.proofs.Sizes.{dbl_add, dbl_mono, dbl_least}
 use Rattle.walk.proofs.TreeLaws.{unique_tree, tree_length}
 use Rattle.walk.proofs.Unique.{tells_of}
+use Rattle.std.specs.declared.result.Result.{Result}
+use Rattle.names.specs.declared.Refusal.{Refusal}
+use Rattle.records.specs.StepAnswer.{step_of}
 
 module _ {A B : Type 0} (g : A → B) where
   -- a run whose value is made into another
@@ -41,8 +43,8 @@ module _ {A B : Type 0} (g : A → B) where
       go (halted log r) = refl
 
   -- what is answered of a value is answered of one with the same bytes
-  gives_mapped : {bytes : A → Bytes} {made : B → Bytes} {new : Bytes} {free n : ℕ} {o : Outcome A} {r : Step} → ((a : A) → made (g a) ≡ bytes a) → Gives bytes new free n o r → Gives made new free n (mapped g o) r
-  gives_mapped {new = new} {free} {n} e (gave u c q z a) = gave (g u) c (ap (mapped g) q) (z ∙ ap (λ (bs : Bytes). Done n (length bs) c) (sym (e u))) (subst (At new free) (sym (e u)) a)
+  gives_mapped : {bytes : A → Bytes} {made : B → Bytes} {new : Bytes} {free n : ℕ} {o : Outcome A} {r : Result Step Refusal} → ((a : A) → made (g a) ≡ bytes a) → Gives bytes new free n o r → Gives made new free n (mapped g o) r
+  gives_mapped {new = new} {free} {n} e (gave u c q z a) = gave (g u) c (ap (mapped g) q) (z ∙ ap (λ (bs : Bytes). step_of n (length bs) c) (sym (e u))) (subst (At new free) (sym (e u)) a)
   gives_mapped e (refused k q z) = refused k (ap (mapped g) q) z
 
 -- A record seen as a head of `at` bytes and its parts behind it: it is made again of any such parts; they are good, their draws are among its own; and what is
@@ -108,7 +110,7 @@ module _ {k : Child} {owning : Bool} {mem : Bytes} {t : Task} (p : TreeReady k o
       }
 
   -- what is answered of them, said of the record
-  pub closed : {new : Bytes} {r : Step}
+  pub closed : {new : Bytes} {r : Result Step Refusal}
       → Tells (λ v. take at mem ++ behind v) (Good (take at mem))
       (λ m v. Gives (λ w. take at mem ++ behind w) new t.free (length (take at mem ++ behind v)) (outcome (step t.f (λ w. length (take at mem ++ behind w)) (run m v) t.counter 0)) r) mem new t
       → Tells (tree_bytes k) (FineTree k t.f t.depth) (λ m u. Gives (tree_bytes k) new t.free (length (tree_bytes k u)) (answer m u) r) mem new t

@@ -26,7 +26,6 @@ use Rattle.records.specs.Valid.{IsLet, BodyFields, BindingsFields, lambda_depth,
 use Rattle.records.specs.Views.{SeesLet}
 use Rattle.records.specs.declared.LetView.{LetView}
 use Rattle.records.specs.declared.Step.{Step}
-use Rattle.records.specs.declared.Step.TheVariants.{Refused}
 use Rattle.records.specs.declared.Zone.{Zone}
 use Rattle.records.proofs.Lists.{list_count, list_bytes}
 use Rattle.walk.specs.Arena.{outcome}
@@ -38,7 +37,6 @@ use Rattle.walk.specs.Room.{room}
 use Rattle.walk.specs.Steps.{M, ◌>>=◌, ret, refuse, body_size, step}
 use Rattle.walk.specs.Walking.{count_of, from_sum, rule, Fine, Walks}
 use Rattle.walk.specs.declared.Made.{Made}
-use Rattle.walk.specs.declared.Made.TheVariants.{Done as Has, Refused as Not}
 use Rattle.walk.specs.declared.Task.{Task}
 use Rattle.walk.proofs.AssignSizes.{order_size, atoms_at, at_in}
 use Rattle.walk.proofs.AssignTurns.{each_valid}
@@ -52,6 +50,9 @@ use Rattle.walk.proofs.RunLaws.{own_step, step_refuses, step_same}
 use Rattle.walk.proofs.Sizes.{dbl_add, dbl_mono, dbl_twice, order_below, order_sum}
 use Rattle.walk.proofs.TurnedLaws.{AssignParts, assign_parts}
 use Rattle.walk.proofs.Unique.{unique_fine, tells_of}
+use Rattle.std.specs.declared.result.Result.{Result}
+use Rattle.std.specs.declared.result.Result.TheVariants.{Err}
+use Rattle.walk.specs.RuleAnswers.{made_with}
 
 -- each binding of an assign that is fine
 each_fine : (F d : ℕ) (z : Zone) (bs : Bindings) → BindingsFields bs → bindings_depth bs ≤ d → bindings_depth bs ≤ level_limit → bindings_lambda_depth bs ≤ lambda_limit → BindingsNoMod z bs
@@ -170,12 +171,6 @@ module _ {mem : Bytes} {o : Order} {t : Task} (p : OrderedReady mem o t) where
       starts_are : starts ≡ places
       starts_are = take_at places rest (o.count + 1) (omega (arith, placed.1.many, count_is))
 
-      pub array_long : o.count + 1 ≤ length array
-      array_long = omega (arith, placed.1.many, count_is, length-append places rest)
-
-      pub starts_size : o.count + 1 ≡ length starts
-      starts_size = omega (arith, ap length starts_are, placed.1.many, count_is)
-
       found : (get_or starts 0 0 ≡ v.first) × BindingStarts mem starts bindings
       found = subst (λ (z : List ℕ). (get_or z 0 0 ≡ v.first) × BindingStarts mem z bindings) (sym starts_are) placed
 
@@ -204,7 +199,7 @@ module _ {mem : Bytes} {o : Order} {t : Task} (p : OrderedReady mem o t) where
         longest = p.ready.longest;
       }
 
-      module _ {a : Bytes} {r : Made} (h : MakesBindings mem a order starts bindings_task r) where
+      module _ {a : Bytes} {r : Result Made Refusal} (h : MakesBindings mem a order starts bindings_task r) where
         frame : SameOutside mem a (t.free + t.f) (length mem)
         frame = same_wider (t.free + t.f) (length mem) (omega arith) (omega arith) h.frame
 
@@ -222,12 +217,12 @@ module _ {mem : Bytes} {o : Order} {t : Task} (p : OrderedReady mem o t) where
         said : MakesRun (λ u. joined binding_bytes u.1) (λ u. length u.1 ≡ length order) t.f (map_growth * t.f) (at_all binding_size bindings order) a (λ k. t.free + 3 * t.f - k) run t.counter 0 r
         said = h.says bindings all_fine found.1
 
-        pub bindings_refused : (k : Refusal) → r ≡ Not k → Walks (IsLet Assign) true mem a t (Refused k)
+        pub bindings_refused : (k : Refusal) → r ≡ Err k → Walks (IsLet Assign) true mem a t (Err k)
         bindings_refused k e =
             tells_of unique_fine p.ready (same_wider t.free (length mem - t.map) (omega arith) (omega (arith, no_map_length)) frame)
             (refused k (own ∙ ap (λ (m : M Body). outcome (step t.f body_size m t.counter 0)) opened ∙ step_refuses t.f body_size (run >>= then_body) t.counter 0 (unmade_of k e said then_body)) refl)
 
-        module _ {w x len d : ℕ} (e : r ≡ Has w x len d) where
+        module _ {w x len d : ℕ} (e : r ≡ made_with w x len d) where
           got : MadeOf (λ u. joined binding_bytes u.1) (λ u. length u.1 ≡ length order) t.f (map_growth * t.f) (at_all binding_size bindings order) a (λ k. t.free + 3 * t.f - k) run t.counter 0 w x len d
           got = made_of w x len d e said
 
@@ -286,7 +281,7 @@ module _ {mem : Bytes} {o : Order} {t : Task} (p : OrderedReady mem o t) where
           unfolding count_of
           same_count = got.has ∙ row_size ∙ count_is ∙ list_count view.bs ∙ sym (ap count_of view.is)
 
-          pub ordered_done : {end : Bytes} {q : Step} → Turns a end w x turned_task q → Walks (IsLet Assign) true mem end t q
+          pub ordered_done : {end : Bytes} {q : Result Step Refusal} → Turns a end w x turned_task q → Walks (IsLet Assign) true mem end t q
           unfolding turned_ready
           ordered_done {end} {q} g =
               let z = turned_ready.ready in

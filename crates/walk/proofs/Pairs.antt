@@ -15,7 +15,6 @@ use Rattle.records.proofs.StepAnswers.{unmade}
 use Rattle.records.specs.Records.{head_width, Loc, Sexp, SC, sexp_bytes, record_bytes}
 use Rattle.records.specs.Valid.{ValidLoc, SexpFields, cons_depth}
 use Rattle.records.specs.declared.Step.{Step}
-use Rattle.records.specs.declared.Step.TheVariants.{Done, Refused}
 use Rattle.walk.specs.Arena.{MapAt, Asks, Held, fitting, Substitutes}
 use Rattle.walk.specs.Steps.{over_long}
 use Rattle.walk.specs.Plans.{PairAtStart}
@@ -23,6 +22,9 @@ use Rattle.walk.proofs.Fits.{fitting_fits, fitting_long, refused_long, given, do
 use Rattle.walk.specs.declared.Task.{Task}
 use Rattle.walk.proofs.MapLaws.{map_after}
 use Rattle.walk.proofs.OnParts.{from, rejoin, asks_part, part_frame, part_gives}
+use Rattle.std.specs.declared.result.Result.{Result}
+use Rattle.std.specs.declared.result.Result.TheVariants.{Err}
+use Rattle.records.specs.StepAnswer.{step_of}
 
 -- an SC and where its parts stand
 pub record Cons (s : Bytes) (l : Loc) (h u : Sexp) : Type 0 where
@@ -122,12 +124,12 @@ module _ (rule : NameMap → Sexp → Sexp) where
     whole_fits : (f c : ℕ) → result_size ≤ f → outcome f c m t ≡ gives result c
     whole_fits f c le = ap (fitting sexp_bytes f c) (v.goes m) ∙ fitting_fits sexp_bytes f c result (omega (arith, whole_size))
 
-  pub no_room : {mem : Bytes} {t : Task} {r : Step} → PairAtStart rule mem → r ≡ Refused over_long → t.f < head_width → Substitutes rule mem mem t r
+  pub no_room : {mem : Bytes} {t : Task} {r : Result Step Refusal} → PairAtStart rule mem → r ≡ Err over_long → t.f < head_width → Substitutes rule mem mem t r
   no_room {t = t} ps is lt =
       record { frame = same_refl; says = λ m at s a b w. refused over_long (whole_long (pair_of ps s w a) m t.f t.counter (omega arith)) is }
 
   -- after the first part: b holds what the memory held, the mark and the L at free, and the first part's result after them
-  record One (mem b : Bytes) (t : Task) (r : Step) : Type 0 where
+  record One (mem b : Bytes) (t : Task) (r : Result Step Refusal) : Type 0 where
     frame : SameOutside mem b t.free (t.free + t.f)
     head : (bs : Bytes) → At mem 0 bs → length bs ≡ head_width → At b t.free bs
     says : (m : NameMap) → MapAt mem t.map m → (h : Sexp) → SexpFields h → At mem head_width (sexp_bytes h) → head_width + length (sexp_bytes h) ≤ t.free
@@ -166,7 +168,7 @@ module _ (rule : NameMap → Sexp → Sexp) where
           (map_after w.frame (omega (arith, p.room)) p.map) (omega (arith, p.room))
 
       -- the first part is answered
-      module _ {y : Bytes} {r : Step} (s : Substitutes rule (from a head_width) y (head_task t) r) where
+      module _ {y : Bytes} {r : Result Step Refusal} (s : Substitutes rule (from a head_width) y (head_task t) r) where
         abbrev middle : Bytes
         middle = rejoin a head_width y
 
@@ -184,7 +186,7 @@ module _ (rule : NameMap → Sexp → Sexp) where
                   (at_below w.frame there below) (omega arith) fine;
             }
 
-        pub first_refused : (k : Refusal) → r ≡ Refused k → Substitutes rule mem middle t (Refused k)
+        pub first_refused : (k : Refusal) → r ≡ Err k → Substitutes rule mem middle t (Err k)
         first_refused k e =
             record {
               frame = one.frame;
@@ -196,7 +198,7 @@ module _ (rule : NameMap → Sexp → Sexp) where
             }
 
         -- the first part is done
-        module _ {hr hw d : ℕ} (e : r ≡ Done hr hw d) where
+        module _ {hr hw d : ℕ} (e : r ≡ step_of hr hw d) where
           first : {m : NameMap} {x : Sexp} → MapAt mem t.map m → (v : Pair mem x) → length (sexp_bytes x) ≤ t.free → First middle t v.h v.u m hr hw d
           first {m} map v below =
               let said = one.says m map v.h v.parts.fields_h v.parts.left (omega (arith, v.size)) in
@@ -224,7 +226,7 @@ module _ (rule : NameMap → Sexp → Sexp) where
               k.tail (omega (arith, k.below)) (map_after one.frame (omega (arith, p.room)) p.map) tail_fit
 
           -- the second part is answered
-          module _ {z : Bytes} {r₂ : Step} (s₂ : Substitutes rule (from middle (head_width + hr)) z (tail_task t hr hw d) r₂) where
+          module _ {z : Bytes} {r₂ : Result Step Refusal} (s₂ : Substitutes rule (from middle (head_width + hr)) z (tail_task t hr hw d) r₂) where
             abbrev read : ℕ
             read = head_width + hr
 
@@ -249,7 +251,7 @@ module _ (rule : NameMap → Sexp → Sexp) where
                 part_gives read tail_fit s₂ (t.free + wrote) (omega (arith, i.below)) (map_after one.frame (omega (arith, p.room)) map) v.u i.tail
                 (omega (arith, i.below)) v.parts.fields_u
 
-            pub second_refused : (k : Refusal) → r₂ ≡ Refused k → Substitutes rule mem end t (Refused k)
+            pub second_refused : (k : Refusal) → r₂ ≡ Err k → Substitutes rule mem end t (Err k)
             second_refused k q =
                 record {
                   frame = second_frame;
@@ -261,18 +263,18 @@ module _ (rule : NameMap → Sexp → Sexp) where
                 }
 
             -- and done
-            module _ {tr tw d₂ : ℕ} (q : r₂ ≡ Done tr tw d₂) where
+            module _ {tr tw d₂ : ℕ} (q : r₂ ≡ step_of tr tw d₂) where
               pub second_fits : (read + tr ≤ t.free) × (wrote + tw ≤ t.f)
               second_fits =
                   let i = first_done in
                   let g = given (t.f - wrote) d (rule p.m view.u) tr tw d₂ q (gave_second p.map view p.below) in
                   (omega (arith, i.below, g.read), omega (arith, i.short, g.short, g.wrote))
 
-              pub both_done : Substitutes rule mem end t (Done (read + tr) (wrote + tw) d₂)
+              pub both_done : Substitutes rule mem end t (step_of (read + tr) (wrote + tw) d₂)
               both_done = record { frame = second_frame; says = says }
                 where
                   says : (m : NameMap) → MapAt mem t.map m → (x : Sexp) → At mem 0 (sexp_bytes x) → length (sexp_bytes x) ≤ t.free → SexpFields x
-                      → Gives sexp_bytes end t.free (length (sexp_bytes x)) (outcome t.f t.counter m x) (Done (read + tr) (wrote + tw) d₂)
+                      → Gives sexp_bytes end t.free (length (sexp_bytes x)) (outcome t.f t.counter m x) (step_of (read + tr) (wrote + tw) d₂)
                   says m map x there below fine =
                       let v = pair_of ps x fine there in
                       let i = first map v below in

@@ -19,7 +19,6 @@ use Rattle.walk.specs.Room.{room}
 use Rattle.walk.specs.Steps.{M, ◌>>=◌, ret}
 use Rattle.walk.specs.declared.Child.TheVariants.{Bodyform}
 use Rattle.walk.specs.declared.Piece.{Piece}
-use Rattle.walk.specs.declared.Piece.TheVariants.{Done as Took, Refused as Stopped}
 use Rattle.walk.specs.declared.Rest.TheVariants.{Listed, Parts}
 use Rattle.walk.specs.declared.Task.{Task}
 use Rattle.walk.specs.declared.Way.{Way}
@@ -32,6 +31,9 @@ use Rattle.walk.proofs.TreeLaws.{ChildMade, child_made}
 use Rattle.walk.proofs.Unique.{tells_of}
 use Rattle.walk.proofs.WayLaws.{sum_new, sum_holds_left}
 use Rattle.walk.proofs.Wholes.{from_length, whole_frame, map_from, took_is}
+use Rattle.std.specs.declared.result.Result.{Result}
+use Rattle.std.specs.declared.result.Result.TheVariants.{Err}
+use Rattle.walk.specs.RuleAnswers.{piece_of}
 
 module _ {way : Way} {mem : Bytes} {sum : ℕ} {t : Task} (p : RestReady Parts way mem sum t) where
   -- the helpers
@@ -89,16 +91,16 @@ module _ {way : Way} {mem : Bytes} {sum : ℕ} {t : Task} (p : RestReady Parts w
         taken = λ e. omega (arith, p.taken e);
       }
 
-  module _ {mid : Bytes} {a : Piece} (s : WalksRest Listed way mem mid sum t a) where
+  module _ {mid : Bytes} {a : Result Piece Refusal} (s : WalksRest Listed way mem mid sum t a) where
     -- what they answered
     listed_told : ComesOut listed_bytes t.f mid t.free (length (listed_bytes hs)) run_helpers t.counter sum a
     listed_told = s.says m p.ready.map hs (at_left (listed_bytes hs) (body_bytes b) p.ready.there) (omega (arith, p.ready.below, size)) p.ready.good.0
 
     -- one of them is refused
-    pub listed_refused : (q : Refusal) → a ≡ Stopped q → WalksRest Parts way mem mid sum t (Stopped q)
+    pub listed_refused : (q : Refusal) → a ≡ Err q → WalksRest Parts way mem mid sum t (Err q)
     listed_refused q e = tells_of (unique_rest Parts t.f t.depth) p.ready s.frame (stayed q (then_stops run_helpers then_body (stayed_as q e listed_told)) refl)
 
-    module _ (i w x c : ℕ) (e : a ≡ Took i w x c) where
+    module _ (i w x c : ℕ) (e : a ≡ piece_of i w x c) where
       -- they are done
       listed_came : Came listed_bytes t.f mid t.free (length (listed_bytes hs)) run_helpers t.counter sum i w x c
       listed_came = came_as i w x c e listed_told
@@ -165,7 +167,7 @@ module _ {way : Way} {mem : Bytes} {sum : ℕ} {t : Task} (p : RestReady Parts w
             taken = λ o. omega (arith, listed_sum, sum_holds_left way sum 0 (length (helpers_bytes hs)) (length (helpers_bytes us)) (length (body_bytes b)) (omega (arith, p.taken o)) o);
           }
 
-      module _ {y : Bytes} {r : Piece} (v : WalksChild Bodyform way (from mid i) y x body_task r) where
+      module _ {y : Bytes} {r : Result Piece Refusal} (v : WalksChild Bodyform way (from mid i) y x body_task r) where
         -- memory after it
         abbrev end : Bytes
         end = rejoin mid i y
@@ -191,12 +193,12 @@ module _ {way : Way} {mem : Bytes} {sum : ℕ} {t : Task} (p : RestReady Parts w
             (v.says m body_map b body_there (omega (arith, listed_read)) p.ready.good.1)
 
         -- it is refused
-        pub body_refused : (q : Refusal) → r ≡ Stopped q → WalksRest Parts way mem end sum t (Stopped q)
+        pub body_refused : (q : Refusal) → r ≡ Err q → WalksRest Parts way mem end sum t (Err q)
         body_refused q o =
             tells_of (unique_rest Parts t.f t.depth) p.ready end_frame
             (stayed q (then_stops_later run_helpers then_body listed_came.run_done (then_stops run_body (λ v. ret (us, v)) (stayed_as q o body_told))) refl)
 
-        module _ (j n x₂ d : ℕ) (o : r ≡ Took j n x₂ d) where
+        module _ (j n x₂ d : ℕ) (o : r ≡ piece_of j n x₂ d) where
           -- it is done
           body_came : Came body_bytes t.f end (t.free + w) (length (body_bytes b)) run_body c x j n x₂ d
           body_came = came_as j n x₂ d o body_told
@@ -213,7 +215,7 @@ module _ {way : Way} {mem : Bytes} {sum : ℕ} {t : Task} (p : RestReady Parts w
           body_short = omega (arith, body_came.wrote, body_made.made.fine.short)
 
           -- and that is the answer of both
-          pub parts_walk : WalksRest Parts way mem end sum t (Took (i + j) (w + n) x₂ d)
+          pub parts_walk : WalksRest Parts way mem end sum t (piece_of (i + j) (w + n) x₂ d)
           unfolding ret
           parts_walk =
               tells_of (unique_rest Parts t.f t.depth) p.ready end_frame

@@ -28,10 +28,7 @@ use Rattle.walk.specs.Patterns.{make_binding_unique}
 use Rattle.walk.specs.RenameInCons.{rename_in_cons}
 use Rattle.walk.specs.Steps.{M, Out, made, done, refused, ◌>>=◌, ret, child, sexp_size}
 use Rattle.walk.specs.declared.Drawn.{Drawn as Answer}
-use Rattle.walk.specs.declared.Drawn.TheVariants.{Done, Refused as Stopped}
 use Rattle.walk.specs.declared.Growth.{Growth}
-use Rattle.walk.specs.declared.Invented.{Invented}
-use Rattle.walk.specs.declared.Invented.TheVariants.{Drawn, Refused}
 use Rattle.walk.proofs.DoneLaws.{then_gives, then_refuses}
 use Rattle.walk.proofs.MapLaws.{no_map, map_after}
 use Rattle.walk.proofs.NewNameLaws.{args_then, args_go_on, args_valid, ArgsGot, args_got, args_halted}
@@ -41,6 +38,9 @@ use Rattle.walk.proofs.Results.{invent_draws}
 use Rattle.walk.proofs.RunLaws.{then_then, ret_then, neutral_draw, then_same}
 use Rattle.walk.proofs.Unique.{unique_pattern}
 use Rattle.walk.proofs.Wholes.{from_length, whole_frame, whole_at}
+use Rattle.std.specs.declared.result.Result.{Result}
+use Rattle.std.specs.declared.result.Result.TheVariants.{Ok, Err}
+use Rattle.walk.specs.RuleAnswers.{drawn_of}
 
 -- a drawn name
 pub record DrawnName (n : Bytes) (c : ℕ) (v : Bytes) (d : ℕ) : Type 0 where
@@ -66,7 +66,7 @@ unfolding pattern_field
 name_pattern_length n = omega (arith, name_field_length n)
 
 -- the answer for the pattern that is known to stand there is the answer for every one
-pub pattern_tells : {old new : Bytes} {free f c : ℕ} {r : Answer} (p : Pattern) → ValidPattern p → At old 0 (pattern_field p) → SameOutside old new free (length old) → PatternDrawn p new free f c r
+pub pattern_tells : {old new : Bytes} {free f c : ℕ} {r : Result Answer Refusal} (p : Pattern) → ValidPattern p → At old 0 (pattern_field p) → SameOutside old new free (length old) → PatternDrawn p new free f c r
     → DrawsPattern old new free f c r
 pattern_tells {old} {new} {free} {f} {c} {r} p v at w a =
     record { frame = w; says = λ q u here. subst (λ (x : Pattern). PatternDrawn x new free f c r) (unique_pattern old p q v u at here) a }
@@ -108,24 +108,24 @@ module _ {old : Bytes} {free c : ℕ} (p : NameReady old free c) where
     from_there : NameFrom old 2 (2 + k) p.n
     from_there = record { there = bytes_there; ends = omega (arith, size_is) }
 
-    module _ (mid : Bytes) (o : Invented) (grown : Grown old mid 0 0 o) (pushes : Pushes old mid 2 (2 + k) 0 c o) where
+    module _ (mid : Bytes) (o : Result Growth Refusal) (grown : Grown old mid 0 0 o) (pushes : Pushes old mid 2 (2 + k) 0 c o) where
       -- the made name is too long
-      pub name_stopped : (q : Refusal) → o ≡ Refused q → DrawsName old mid free c (Stopped q)
+      pub name_stopped : (q : Refusal) → o ≡ Err q → DrawsName old mid free c (Err q)
       unfolding make_binding_unique
       name_stopped q is f =
-          let g = subst (λ (x : Invented). Grown old mid 0 0 x) is grown in
-          let d = subst (λ (x : Invented). Draws (draw p.n c) (λ n'. (p.n, n') ∷ []) mid 0 c (atom_size (length p.n)) (2 + k) x) is (pushes p.n from_there [] no_map) in
+          let g = subst (λ (x : Result Growth Refusal). Grown old mid 0 0 x) is grown in
+          let d = subst (λ (x : Result Growth Refusal). Draws (draw p.n c) (λ n'. (p.n, n') ∷ []) mid 0 c (atom_size (length p.n)) (2 + k) x) is (pushes p.n from_there [] no_map) in
           let runs : outcome (draw p.n c 0) ≡ refuses q = d.runs 0 ∙ ap refuses (sym d.is) in
           pattern_tells (Name p.n) valid_name p.there (same_wider free (length old) (omega (arith, name_room.1)) (omega arith) g)
           (stopped q (λ F x fits next. then_then (draw p.n) (λ n'. ret ((p.n, n') ∷ [], Name n')) next c x ∙ then_refuses (λ n'. ret ((p.n, n') ∷ [], Name n') >>= next) (neutral_draw p.n) c x runs) refl)
 
       -- it is made
-      module _ (g : Growth) (is : o ≡ Drawn g) where
+      module _ (g : Growth) (is : o ≡ Ok g) where
         name_grew : Grew old mid 0 g
-        name_grew = subst (λ (x : Invented). Grown old mid 0 0 x) is grown
+        name_grew = subst (λ (x : Result Growth Refusal). Grown old mid 0 0 x) is grown
 
         name_drew : Drew (draw p.n c) (λ n'. (p.n, n') ∷ []) mid 0 c (atom_size (length p.n)) (2 + k) g
-        name_drew = subst (λ (x : Invented). Draws (draw p.n c) (λ n'. (p.n, n') ∷ []) mid 0 c (atom_size (length p.n)) (2 + k) x) is (pushes p.n from_there [] no_map)
+        name_drew = subst (λ (x : Result Growth Refusal). Draws (draw p.n c) (λ n'. (p.n, n') ∷ []) mid 0 c (atom_size (length p.n)) (2 + k) x) is (pushes p.n from_there [] no_map)
 
         abbrev new_name : Bytes
         new_name = name_drew.value
@@ -200,7 +200,7 @@ module _ {old : Bytes} {free c : ℕ} (p : NameReady old free c) where
               ∙ ret_then next ((p.n, new_name) ∷ [], Name new_name) g.counter x
               ∙ ap (λ (y : ℕ). outcome (next ((p.n, new_name) ∷ [], Name new_name) g.counter y)) z
 
-          pub name_made : DrawsName old new free c (Done (2 + k) (1 + made_length) g.len g.counter)
+          pub name_made : DrawsName old new free c (drawn_of (2 + k) (1 + made_length) g.len g.counter)
           unfolding pattern_field
           name_made f =
               let read : 2 + k ≡ length (pattern_field (Name p.n)) = omega (arith, name_field_length p.n, size_is) in
@@ -262,7 +262,7 @@ module _ {old : Bytes} {free f c : ℕ} (p : PatternReady old free f c) where
         let l = from_length one 1 (omega (arith, mark.size, pattern_starts.0)) in
         record { s = h.s; valid = h.valid; there = into there_one; below = omega (arith, h.below); room = omega (arith, mark.size, h.room); counts = h.counts }
 
-    module _ {y : Bytes} {r : Answer} (d : DrawsArgs (from one 1) y free false f c r) where
+    module _ {y : Bytes} {r : Result Answer Refusal} (d : DrawsArgs (from one 1) y free false f c r) where
       abbrev two : Bytes
       two = rejoin one 1 y
 
@@ -288,12 +288,12 @@ module _ {old : Bytes} {free f c : ℕ} (p : PatternReady old free f c) where
           ∙ then_then (invent_new_names_sexp [] h.s) (λ m. child F sexp_size (rename_in_cons_step F false m h.s) >>= paired m) next c x
           ∙ then_same (invent_new_names_sexp [] h.s) _ _ (λ m d y. then_then (child F sexp_size (rename_in_cons_step F false m h.s)) (paired m) next d y) c x
 
-      pub complex_stopped : (q : Refusal) → r ≡ Stopped q → DrawsPattern old two free f c (Stopped q)
+      pub complex_stopped : (q : Refusal) → r ≡ Err q → DrawsPattern old two free f c (Err q)
       complex_stopped q e =
           pattern_tells p.p p.valid p.there frame_two
           (stopped q (λ F x fits next. run_two F x next ∙ args_halted F x (λ m s'. paired m s' >>= next) q fits e args_two) refl)
 
-      module _ (i w len d' : ℕ) (e : r ≡ Done i w len d') where
+      module _ (i w len d' : ℕ) (e : r ≡ drawn_of i w len d') where
         got_two : ArgsGot false h.s y free f c i w len d'
         got_two = args_got i w len d' e args_two
 
@@ -332,7 +332,7 @@ module _ {old : Bytes} {free f c : ℕ} (p : PatternReady old free f c) where
         pub complex_sums : (1 + i ≤ free) × (free + (1 + w) ≤ length old)
         complex_sums = (omega (arith, got_two.read, h.below), omega (arith, got_two.short, h.room))
 
-        pub complex_drawn : DrawsPattern old two free f c (Done (1 + i) (1 + w) len d')
+        pub complex_drawn : DrawsPattern old two free f c (drawn_of (1 + i) (1 + w) len d')
         unfolding pattern_field
         complex_drawn =
             let read : 1 + i ≡ length (pattern_field (Complex h.s)) = omega (arith, got_two.read) in

@@ -12,7 +12,6 @@ use Rattle.records.proofs.StepAnswers.{made, unmade}
 use Rattle.records.specs.Records.{Sexp, sexp_bytes}
 use Rattle.records.specs.Valid.{SexpFields}
 use Rattle.records.specs.declared.Step.{Step}
-use Rattle.records.specs.declared.Step.TheVariants.{Done, Refused}
 use Rattle.walk.specs.Arena.{MapAt, Asks, Held, fitting, Substitutes}
 use Rattle.walk.specs.Plans.{substitution, GoesByParts, Quoted, OnlyElement, Planned, keeps, renames, quotes, goes_alone, goes_on, Plans, PairAtStart}
 use Rattle.walk.specs.RenameInCons.{rename_atom}
@@ -22,6 +21,9 @@ use Rattle.walk.specs.declared.Quasi.{Quasi}
 use Rattle.walk.specs.declared.Task.{Task}
 use Rattle.walk.proofs.Fits.{done_is}
 use Rattle.walk.proofs.OnParts.{from, rejoin, asks_part, part_frame, part_gives}
+use Rattle.std.specs.declared.result.Result.{Result}
+use Rattle.std.specs.declared.result.Result.TheVariants.{Err}
+use Rattle.records.specs.StepAnswer.{step_of}
 
 -- what a plan says of a record
 module _ (rule : NameMap → Sexp → Sexp) (s : Bytes) (t : Sexp) where
@@ -46,7 +48,7 @@ pub plan_pairs : (rule : NameMap → Sexp → Sexp) {s : Bytes} → Plans rule s
 plan_pairs rule x = record { goes = plan_says rule x }
 
 module _ (rule : NameMap → Sexp → Sexp) {mem : Bytes} {t : Task} where
-  pub renamed_atom : {new : Bytes} {r : Step} → Plans rule mem ByMap → Substitutes rename_atom mem new t r → Substitutes rule mem new t r
+  pub renamed_atom : {new : Bytes} {r : Result Step Refusal} → Plans rule mem ByMap → Substitutes rename_atom mem new t r → Substitutes rule mem new t r
   renamed_atom {new} {r} x k =
       record {
         frame = k.frame;
@@ -78,7 +80,7 @@ module _ (rule : NameMap → Sexp → Sexp) {mem : Bytes} {t : Task} where
         asks_part at k.x (record { fields = k.fields; conses = omega (arith, k.deeper, p.good.conses) }) k.there (omega (arith, k.within, p.below)) p.map fit
 
     -- what is answered of it
-    module _ {y : Bytes} {r : Step} (s : Substitutes (substitution next) (from mem at) y alone_task r) where
+    module _ {y : Bytes} {r : Result Step Refusal} (s : Substitutes (substitution next) (from mem at) y alone_task r) where
       abbrev end : Bytes
       end = rejoin mem at y
 
@@ -92,7 +94,7 @@ module _ (rule : NameMap → Sexp → Sexp) {mem : Bytes} {t : Task} where
           → Gives sexp_bytes end t.free (length (sexp_bytes k.x)) (outcome m k.x) r
       alone_gives map below k = let l = element_low in part_gives at fit s t.free (omega arith) map k.x k.there (omega (arith, k.within)) k.fields
 
-      pub alone_refused : (k : Refusal) → r ≡ Refused k → Substitutes rule mem end t (Refused k)
+      pub alone_refused : (k : Refusal) → r ≡ Err k → Substitutes rule mem end t (Err k)
       alone_refused k g =
           record {
             frame = alone_frame;
@@ -100,7 +102,7 @@ module _ (rule : NameMap → Sexp → Sexp) {mem : Bytes} {t : Task} where
                 refused k (ap (fitting sexp_bytes t.f t.counter) (i.makes m) ∙ unmade k g (alone_gives map b i)) refl;
           }
 
-      pub alone_done : (hr hw d : ℕ) → r ≡ Done hr hw d → Substitutes rule mem end t (Done n hw d)
+      pub alone_done : (hr hw d : ℕ) → r ≡ step_of hr hw d → Substitutes rule mem end t (step_of n hw d)
       alone_done hr hw d g =
           record {
             frame = alone_frame;

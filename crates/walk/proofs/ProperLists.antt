@@ -8,6 +8,7 @@ use Prim.Native.String.{String}
 use lib.Dec.{eqb}
 use lib.ListN.{length}
 use borrow.Author.Tests.{eq-eqb, ne_eqb}
+use Rattle.std.specs.Prelude.{Option, Some, None}
 use Rattle.names.specs.Names.{Bytes, same}
 use Rattle.names.specs.Segments.{At}
 use Rattle.names.proofs.Parts.{into, part}
@@ -19,8 +20,8 @@ use Rattle.records.specs.Valid.{SexpFields}
 use Rattle.records.specs.Views.{SexpAt, nil_at, pair_at, integer_at, text_at, atom_at, SeesSexp}
 use Rattle.records.specs.declared.NameView.{NameView}
 use Rattle.records.specs.declared.SexpView.{SexpView}
-use Rattle.records.specs.declared.SexpView.TheVariants.{Nil, Pair, Integer, Text, Atom, Unknown}
-use Rattle.records.proofs.AnySexp.{bytes_are, unseen}
+use Rattle.records.specs.declared.SexpView.TheVariants.{Nil, Pair, Integer, Text, Atom}
+use Rattle.records.proofs.AnySexp.{bytes_are}
 use Rattle.records.proofs.Views.{first_of, rest_of}
 use Rattle.walk.specs.Plans.{substitution, OnlyAt, only_none, only_one, SeesOnly, HeadAt, IsAtom, OnlyOfTailAt, single_none, single_one, SeesOnlyOfTail, Planned, keeps, renames, Plans, PlansPair}
 use Rattle.walk.specs.RenameInCons.{rename_in_cons}
@@ -90,12 +91,9 @@ module _ {s : Bytes} (t : Sexp) (w : SexpFields t) (a : At s 0 (sexp_bytes t)) w
       go : {u : Sexp} → SexpAt s (Atom n) u → eqb n.start n.end ≡ nilp u
       go (atom_at {n = b} k) = empty_is b n.start n.end k.ends
 
-  pub no_nilp : SeesSexp s Unknown → false ≡ nilp t
-  no_nilp x = absurd (unseen (x.sees t w a))
-
 -- a proper list of one element
-pub onlys_left : {s : Bytes} {v : SexpView} → NoPair v → SeesSexp s v → SeesOnly s 0
-onlys_left q x = record { within = omega arith; onlys = λ t w a. only_none refl (left q (x.sees t w a)).no_list }
+pub onlys_left : {s : Bytes} {v : SexpView} → NoPair v → SeesSexp s v → SeesOnly s None
+onlys_left q x = record { within = tt; onlys = λ t w a. only_none refl (left q (x.sees t w a)).no_list }
 
 module _ {s : Bytes} {p : ℕ} (x : SeesSexp s (Pair p)) where
   -- where the head stands
@@ -115,21 +113,21 @@ module _ {s : Bytes} {p : ℕ} (x : SeesSexp s (Pair p)) where
         let i = size.skips h w.1 (into (first_of k)) in
         end u w.2 (into (at_place (p + n) (omega (arith, i)) (first_of (rest_of k))))
 
-    pub onlys_one : r ≡ true → SeesOnly s p
+    pub onlys_one : r ≡ true → SeesOnly s (Some p)
     onlys_one e = record { within = x.places.1; onlys = λ t w a. go w a (x.sees t w a) }
       where
-        go : {t : Sexp} → SexpFields t → At s 0 (sexp_bytes t) → SexpAt s (Pair p) t → OnlyAt t p
-        go w a (pair_at {l = l} {h = h} {t = u} k q) = only_one l h u refl (sym (ends w (pair_at k q)) ∙ e) (head_at.is l h u w a)
+        go : {t : Sexp} → SexpFields t → At s 0 (sexp_bytes t) → SexpAt s (Pair p) t → OnlyAt t (Some p)
+        go w a (pair_at {l = l} {h = h} {t = u} k q) = only_one l h u refl (sym (ends w (pair_at k q)) ∙ e) (ap (λ (i : ℕ). Some i) (head_at.is l h u w a))
 
-    pub onlys_none : r ≡ false → SeesOnly s 0
+    pub onlys_none : r ≡ false → SeesOnly s None
     unfolding only
-    onlys_none e = record { within = omega arith; onlys = λ t w a. go w (x.sees t w a) }
+    onlys_none e = record { within = tt; onlys = λ t w a. go w (x.sees t w a) }
       where
-        go : {t : Sexp} → SexpFields t → SexpAt s (Pair p) t → OnlyAt t 0
+        go : {t : Sexp} → SexpFields t → SexpAt s (Pair p) t → OnlyAt t None
         go w (pair_at k q) = only_none refl (rw (sym (ends w (pair_at k q)) ∙ e, only))
 
 -- the element of a tail
-module _ {s : Bytes} {n k x : ℕ} (hd : HeadAt s n) (size : Skips fields_part (part s n (length s - n)) k) (o : SeesOnly (part s (n + k) (length s - (n + k))) x) where
+module _ {s : Bytes} {n k : ℕ} {x : Option ℕ} (hd : HeadAt s n) (size : Skips fields_part (part s n (length s - n)) k) (o : SeesOnly (part s (n + k) (length s - (n + k))) x) where
   tail_only : (l : Loc) (h u : Sexp) → SexpFields (SC l h u) → At s 0 (sexp_bytes (SC l h u)) → OnlyAt u x × (n + k ≡ head_width + length (sexp_bytes h))
   tail_only l h u w a =
       let v = cons l h u w a in
@@ -137,19 +135,19 @@ module _ {s : Bytes} {n k x : ℕ} (hd : HeadAt s n) (size : Skips fields_part (
       let i = size.skips h v.fields_h (into (at_place n (sym e) v.left)) in
       (o.onlys u v.fields_u (into (at_place (n + k) (omega (arith, i, e)) v.right)), omega (arith, i, e))
 
-  pub singles_none : x ≡ 0 → SeesOnlyOfTail s 0
+  pub singles_none : x ≡ None → SeesOnlyOfTail s None
   singles_none z = record { singles = λ l h u w a. go h u (tail_only l h u w a).0 }
     where
-      go : (h u : Sexp) → OnlyAt u x → OnlyOfTailAt h u 0
+      go : (h u : Sexp) → OnlyAt u x → OnlyOfTailAt h u None
       go h u (only_none e q) = single_none refl q
-      go h u (only_one y c d e q r) = absurd (omega arith)
+      go h u (only_one y c d e q r) = absurd (cc)
 
-  pub singles_one : (x ≡ 0 → ⊥) → SeesOnlyOfTail s (n + k + x)
-  singles_one z = record { singles = λ l h u w a. go h u (tail_only l h u w a) }
+  pub singles_one : {i : ℕ} → x ≡ Some i → SeesOnlyOfTail s (Some (n + k + i))
+  singles_one {i} z = record { singles = λ l h u w a. go h u (tail_only l h u w a) }
     where
-      go : (h u : Sexp) → OnlyAt u x × (n + k ≡ head_width + length (sexp_bytes h)) → OnlyOfTailAt h u (n + k + x)
-      go h u (only_none r q, f) = absurd (z r)
-      go h u (only_one y c d g q r, f) = single_one y c d g q (omega arith)
+      go : (h u : Sexp) → OnlyAt u x × (n + k ≡ head_width + length (sexp_bytes h)) → OnlyOfTailAt h u (Some (n + k + i))
+      go h u (only_none r q, f) = absurd (cc)
+      go h u (only_one y c d g q r, f) = let j : i ≡ head_width = cc in single_one y c d g q (ap (λ (p : ℕ). Some p) (omega arith))
 
 -- the plan by the view
 module _ {s : Bytes} where

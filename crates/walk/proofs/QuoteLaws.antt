@@ -15,7 +15,6 @@ use Rattle.records.specs.Records.{head_width, mark_width, Loc, Sexp, SN, SC, SI,
 use Rattle.records.specs.Sexps.{loc_of}
 use Rattle.records.specs.Valid.{ValidLoc, SexpFields}
 use Rattle.records.specs.declared.Step.{Step}
-use Rattle.records.specs.declared.Step.TheVariants.{Done, Refused}
 use Rattle.records.specs.Parts.{Skips, fields_part}
 use Rattle.walk.specs.Arena.{fitting, Asks, Substitutes}
 use Rattle.walk.specs.Steps.{over_long}
@@ -27,6 +26,10 @@ use Rattle.walk.proofs.HeadLaws.{element}
 use Rattle.walk.proofs.Pairs.{cons_width, cons_length}
 use Rattle.walk.proofs.PlanLaws.{plan_says}
 use Rattle.walk.proofs.Views.{valid_loc_of, least_sexp}
+use Rattle.std.specs.declared.result.Result.{Result}
+use Rattle.names.specs.declared.Refusal.{Refusal}
+use Rattle.std.specs.declared.result.Result.TheVariants.{Err}
+use Rattle.records.specs.StepAnswer.{step_of}
 
 -- a record is its mark, its L and the rest
 record Marked (v : Sexp) : Type 0 where
@@ -196,7 +199,7 @@ module _ (by : NameMap → Sexp → Sexp) {mem : Bytes} {at end : ℕ} (x : Plan
     measured k = size.skips k.v k.fields (into k.there)
 
     module _ {t : Task} where
-      pub requote_long : {r : Step} → r ≡ Refused over_long → t.f < at + n + head_width → Substitutes by mem mem t r
+      pub requote_long : {r : Result Step Refusal} → r ≡ Err over_long → t.f < at + n + head_width → Substitutes by mem mem t r
       requote_long is lt =
           record {
             frame = same_refl;
@@ -210,7 +213,7 @@ module _ (by : NameMap → Sexp → Sexp) {mem : Bytes} {at end : ℕ} (x : Plan
       pub requote_done : {a b d new : Bytes} → Asks sexp_bytes SexpFields mem t → at + n + head_width ≤ t.f
           → Filled mem a t.free (drop 0 mem) (at + n) → Filled a b (t.free + at - loc_width) (drop (at + mark_width) a) loc_width
           → Filled b d (t.free + (at + n)) (ascii "SN") mark_width → Filled d new (t.free + (at + n) + mark_width) (drop (at + mark_width) d) loc_width
-          → Substitutes by mem new t (Done end (at + n + head_width) t.counter)
+          → Substitutes by mem new t (step_of end (at + n + head_width) t.counter)
       requote_done p le f₁ f₂ f₃ f₄ =
           let k₀ = seen p.tree p.good p.there in
           let low : at + n ≤ t.free = omega (arith, k₀.within, measured k₀, p.below) in

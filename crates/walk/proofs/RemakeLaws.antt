@@ -16,7 +16,6 @@ use Rattle.records.specs.StepAnswer.{refuses, Gives}
 use Rattle.records.specs.Limits.{cons_limit}
 use Rattle.records.specs.Records.{Loc, Sexp, sexp_bytes, Complex, Body, body_bytes, Binding, BB}
 use Rattle.records.specs.declared.Step.{Step}
-use Rattle.records.specs.declared.Step.TheVariants.{Done, Refused}
 use Rattle.records.proofs.StepAnswers.{Made as GotOf, made as got_of, unmade}
 use Rattle.walk.specs.Arena.{Asks, Held, Substitutes, fitting, outcome}
 use Rattle.walk.specs.AssignWalks.{made, stopped, MakesParts, inner, remaking, RemakeReady, Remakes}
@@ -26,7 +25,6 @@ use Rattle.walk.specs.Invent.{rename_in_cons_step}
 use Rattle.walk.specs.Steps.{M, over_long, ◌>>=◌, ret, child, further, sexp_size, body_size}
 use Rattle.walk.specs.Walking.{rule, AnyBody, BodyReady, Walks}
 use Rattle.walk.specs.declared.Made.{Made}
-use Rattle.walk.specs.declared.Made.TheVariants.{Done as Has, Refused as Not}
 use Rattle.walk.specs.declared.Task.{Task}
 use Rattle.walk.proofs.DoneLaws.{further_gives, further_over, further_refuses}
 use Rattle.walk.proofs.Fits.{Given, given, refused_long}
@@ -37,6 +35,10 @@ use Rattle.walk.proofs.RunLaws.{then_then, ret_then, neutral_rule}
 use Rattle.walk.proofs.StepLaws.{substitute_gives, substitute_over}
 use Rattle.walk.proofs.Unique.{unique_sexp, unique_body, same_map}
 use Rattle.walk.proofs.Wholes.{from_length, whole_frame, whole_gives, map_from}
+use Rattle.std.specs.declared.result.Result.{Result}
+use Rattle.std.specs.declared.result.Result.TheVariants.{Err}
+use Rattle.walk.specs.RuleAnswers.{made_with}
+use Rattle.records.specs.StepAnswer.{step_of}
 
 module _ {mem : Bytes} {w sum : ℕ} {t : Task} (p : RemakeReady mem w sum t) where
   -- the pattern is asked behind what Own gave
@@ -58,7 +60,7 @@ module _ {mem : Bytes} {w sum : ℕ} {t : Task} (p : RemakeReady mem w sum t) wh
   made_run l nl = remaking t.f (walk t.f t.depth) l nl p.m p.p p.o
 
   -- what is answered of the trees that are known to stand there is answered of all
-  remakes : {new : Bytes} {r : Made} → SameOutside mem new t.free (length mem - t.map) → ((l nl : Loc) → MakesParts l nl t.f t.map w new t.free (made_run l nl) t.counter sum r)
+  remakes : {new : Bytes} {r : Result Made Refusal} → SameOutside mem new t.free (length mem - t.map) → ((l nl : Loc) → MakesParts l nl t.f t.map w new t.free (made_run l nl) t.counter sum r)
       → Remakes mem new w sum t r
   remakes {new} {r} f x = record {
     frame = f;
@@ -82,7 +84,7 @@ module _ {mem : Bytes} {w sum : ℕ} {t : Task} (p : RemakeReady mem w sum t) wh
       → outcome ((made_run l nl >>= k) t.counter sum) ≡ outcome ((child t.f sexp_size (rename_in_cons_step t.f false p.m p.p) >>= λ q. then_body l nl q >>= k) t.counter sum)
   opened l nl k = then_then (child t.f sexp_size (rename_in_cons_step t.f false p.m p.p)) (then_body l nl) k t.counter sum
 
-  module _ {a : Bytes} {r : Step} (s : Substitutes (rename_in_cons false) mem a pattern_task r) where
+  module _ {a : Bytes} {r : Result Step Refusal} (s : Substitutes (rename_in_cons false) mem a pattern_task r) where
     said : Gives sexp_bytes a (t.free + w) (length (sexp_bytes p.p)) (fitting sexp_bytes (t.f - sum) t.counter pattern') r
     said = s.says p.m p.map p.p p.pattern (omega (arith, p.below)) p.valid.0
 
@@ -90,13 +92,13 @@ module _ {mem : Bytes} {w sum : ℕ} {t : Task} (p : RemakeReady mem w sum t) wh
     pattern_frame = same_wider t.free (length mem - t.map) (omega arith) (omega (arith, p.room, p.has, p.held)) s.frame
 
     -- a pattern that is too long
-    pub pattern_refused : (k : Refusal) → r ≡ Refused k → Remakes mem a w sum t (Not k)
+    pub pattern_refused : (k : Refusal) → r ≡ Err k → Remakes mem a w sum t (Err k)
     pattern_refused k e =
         let n = refused_long sexp_bytes (t.f - sum) t.counter pattern' k (unmade k e said) in
         remakes pattern_frame λ l nl.
         stopped k (λ j. opened l nl j ∙ substitute_over t.f false p.m p.p (λ q. then_body l nl q >>= j) t.counter sum (omega (arith, p.held, n.long)) ∙ ap refuses (sym n.is)) refl
 
-    module _ {i x d : ℕ} (e : r ≡ Done i x d) where
+    module _ {i x d : ℕ} (e : r ≡ step_of i x d) where
       got : Given sexp_bytes a (t.free + w) (length (sexp_bytes p.p)) (t.f - sum) t.counter pattern' i x d
       got = given (t.f - sum) t.counter pattern' i x d e said
 
@@ -132,7 +134,7 @@ module _ {mem : Bytes} {w sum : ℕ} {t : Task} (p : RemakeReady mem w sum t) wh
           opened l nl k ∙ substitute_gives t.f false p.m p.p (λ q. then_body l nl q >>= k) t.counter sum (omega (arith, p.held, got.short))
           ∙ then_then (further t.f body_size p.o ((walk t.f t.depth).in_bodyform p.m)) (λ b. ret (p.m, BB l nl (Complex pattern') b)) k t.counter (sum + length (sexp_bytes pattern'))
 
-      module _ {y : Bytes} {q : Step} (h : Walks AnyBody false (from a t.free) y in_task q) where
+      module _ {y : Bytes} {q : Result Step Refusal} (h : Walks AnyBody false (from a t.free) y in_task q) where
         abbrev pub remade : Bytes
         remade = rejoin a t.free y
 
@@ -148,13 +150,13 @@ module _ {mem : Bytes} {w sum : ℕ} {t : Task} (p : RemakeReady mem w sum t) wh
             let z = in_ready in
             whole_gives a t.free (w + x) t.map in_fit h.frame (t.free + (w + x)) refl (h.says p.m z.map p.o z.there z.below p.good)
 
-        pub in_refused : (k : Refusal) → q ≡ Refused k → Remakes mem remade w sum t (Not k)
+        pub in_refused : (k : Refusal) → q ≡ Err k → Remakes mem remade w sum t (Err k)
         in_refused k f =
             remakes both_frame λ l nl.
             stopped k (λ j. go_on l nl j ∙ further_refuses t.f body_size (λ b. ret (p.m, BB l nl (Complex pattern') b) >>= j) ((walk t.f t.depth).in_bodyform p.m) p.o
             (neutral_rule t.f false t.depth p.m p.o) t.counter _ (unmade k f gave_in)) refl
 
-        module _ {v z c : ℕ} (f : q ≡ Done v z c) where
+        module _ {v z c : ℕ} (f : q ≡ step_of v z c) where
           got_in : GotOf body_bytes remade (t.free + (w + x)) (length (body_bytes p.o)) (outcome (rule t.f false t.depth p.m p.o t.counter 0)) v z c
           got_in = got_of v z c f gave_in
 
@@ -166,7 +168,7 @@ module _ {mem : Bytes} {w sum : ℕ} {t : Task} (p : RemakeReady mem w sum t) wh
           unfolding body_size
           new_sum = omega (arith, got.wrote, p.wrote, got_in.wrote)
 
-          pub in_over : {k : Refusal} → k ≡ over_long → t.f < sum + x - w + z → Remakes mem remade w sum t (Not k)
+          pub in_over : {k : Refusal} → k ≡ over_long → t.f < sum + x - w + z → Remakes mem remade w sum t (Err k)
           in_over {k} is lt =
               remakes both_frame λ l nl.
               stopped k (λ j. go_on l nl j ∙ further_over t.f body_size (λ b. ret (p.m, BB l nl (Complex pattern') b) >>= j) ((walk t.f t.depth).in_bodyform p.m) p.o
@@ -196,11 +198,11 @@ module _ {mem : Bytes} {w sum : ℕ} {t : Task} (p : RemakeReady mem w sum t) wh
                 (neutral_rule t.f false t.depth p.m p.o) t.counter _ got_in.is (omega (arith, new_sum))
                 ∙ ret_then k (result l nl) c _ ∙ ap (λ (i : ℕ). outcome (k (result l nl) c i)) new_sum
 
-            pub remake_done : Remakes mem end w sum t (Has (x + z) (sum + x - w + z) t.map c)
+            pub remake_done : Remakes mem end w sum t (made_with (x + z) (sum + x - w + z) t.map c)
             unfolding inner
             remake_done =
                 let n = length-append (sexp_bytes pattern') (body_bytes got_in.u) in
                 let l : x + z ≡ length (sexp_bytes pattern' ++ body_bytes got_in.u) = omega (arith, got.wrote, got_in.wrote) in
                 remakes all_frame λ i j.
-                made (result i j) t.map c (sum + x - w + z) (pattern', got_in.u, refl) (runs i j) (ap (λ (k : ℕ). Has k (sum + x - w + z) t.map c) l) stands
+                made (result i j) t.map c (sum + x - w + z) (pattern', got_in.u, refl) (runs i j) (ap (λ (k : ℕ). made_with k (sum + x - w + z) t.map c) l) stands
                 (map_after all_frame (omega (arith, p.room)) p.map) (record { map = omega arith; sum = le; long = omega (arith, l, p.has) })

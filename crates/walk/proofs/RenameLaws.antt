@@ -4,42 +4,37 @@ use mathlib.Core.Path.{◌≡◌, refl, ap, sym, subst, ◌∙◌}
 use mathlib.Core.Bool.{true}
 use mathlib.Core.List.{List, []}
 use native.Mathlib.Omega.{arith}
-use Prim.Native.Nat.{ℕ, ◌*◌, ◌-◌, ◌^◌, ◌≤◌, ◌<◌}
+use Prim.Native.Nat.{ℕ, ◌*◌, ◌-◌, ◌^◌, ◌≤◌}
 use lib.ListN.{length, take}
-use lib.Seq.{length-take-le}
-use Rattle.names.specs.CallAnswer.{Result, accepted_answer, refused_answer, delivered, max_counter}
+use Rattle.names.specs.CallAnswer.{CallResult, refused_answer, delivered, max_counter}
 use Rattle.names.specs.Names.{Bytes}
 use Rattle.names.specs.Segments.{At, Filled}
-use Rattle.names.specs.Refusals.{placeless}
 use Rattle.names.specs.declared.Refusal.{Refusal}
-use Rattle.names.proofs.CallAnswers.{delivered_short, delivered_fits}
 use Rattle.names.proofs.Frames.{filled_at}
 use Rattle.names.proofs.Parts.{part, into}
 use Rattle.names.proofs.Places.{at_whole}
-use Rattle.names.proofs.Segments.{filled_written}
-use Rattle.records.specs.StepAnswer.{gives, refuses, Gives, gave, refused}
+use Rattle.records.specs.StepAnswer.{gives, refuses, Gives, step_of}
 use Rattle.records.specs.Limits.{level_limit, most_longest, work_factor}
 use Rattle.records.specs.Opened.{Opened, opened, closed, open_input}
 use Rattle.records.specs.Read.{readers}
 use Rattle.records.specs.ReadFields.{Reader}
 use Rattle.records.specs.Scan.{opening_of, wanted_reader}
 use Rattle.records.specs.Valid.{AreBytes, HelperNoMod, FormNoMod}
-use Rattle.records.specs.declared.Opening.{Opening}
-use Rattle.records.specs.declared.Opening.TheVariants.{Accepted, Refused}
+use Rattle.std.specs.Prelude.{Ok, Err, Result as Res}
 use Rattle.records.specs.declared.Step.{Step}
-use Rattle.records.specs.declared.Step.TheVariants.{Done}
 use Rattle.records.specs.declared.Wanted.{Wanted}
 use Rattle.records.specs.declared.Zone.{Zone}
 use Rattle.records.specs.declared.Zone.TheVariants.{Plain}
 use Rattle.records.proofs.Accepted.{Format, form_format, helper_format, opened_valid}
 use Rattle.records.proofs.Opened.{OpenedFrom, work_within, start}
+use Rattle.records.proofs.StepAnswers.{Made, made, unmade}
 use Rattle.walk.specs.Arena.{outcome}
 use Rattle.walk.specs.Assigns.{AssignsOrdered}
 use Rattle.walk.specs.Calls.{answered, call_run, whole_run, children_run, helper_run, whole_call, children_call, helper_call}
 use Rattle.walk.specs.Draws.{dbl, counter_most}
 use Rattle.walk.specs.FormWalks.{TreeOf, tree_bytes, tree_atoms, FineOf, FineTree, WalksTree, WalksChildren}
 use Rattle.walk.specs.Helperforms.{whole_walk, children_walk, helper_walk}
-use Rattle.walk.specs.Renaming.{call_by, wanted_by, read_by, walk_by, call_task, CallReady, WalksCall, MadeWithin, step_answer}
+use Rattle.walk.specs.Renaming.{call_by, wanted_by, read_by, walk_by, call_task, CallReady, WalksCall}
 use Rattle.walk.specs.Room.{room}
 use Rattle.walk.specs.Steps.{Out, refused as stopped, Visit}
 use Rattle.walk.specs.declared.Request.{Request}
@@ -52,6 +47,8 @@ use Rattle.walk.proofs.MapLaws.{no_map}
 use Rattle.walk.proofs.RunLaws.{ended, ended_stops}
 use Rattle.walk.proofs.Sizes.{dbl_mono}
 use Rattle.walk.proofs.TreeLaws.{tree_within}
+use Rattle.std.specs.declared.result.Result.{Result}
+use Rattle.std.specs.declared.result.Result.TheVariants.{Err}
 
 -- the reader of a call
 abbrev reader_by : (k : Request) → Reader (TreeOf (read_by k))
@@ -86,7 +83,7 @@ fine_by ChildrenOnly = fine_opened FormNoMod form_format (λ a v. v.1)
 fine_by SingleHelper = fine_opened HelperNoMod helper_format (λ a v. v.1)
 
 -- the opening of a call's input is that of its reader
-opening_by : (k : Request) (F work c : ℕ) (input : Bytes) {w : Wanted} {r : Opening} → w ≡ wanted_by k → r ≡ opening_of (open_input (wanted_reader w).1 F work c input)
+opening_by : (k : Request) (F work c : ℕ) (input : Bytes) {w : Wanted} {r : Res (Unit {0}) Refusal} → w ≡ wanted_by k → r ≡ opening_of (open_input (wanted_reader w).1 F work c input)
     → r ≡ opening_of (open_input (reader_by k) F work c input)
 opening_by WholeForm F work c input p e = rw p at e
 opening_by ChildrenOnly F work c input p e = rw p at e
@@ -99,12 +96,12 @@ call_is WholeForm F work c input buffer = refl
 call_is ChildrenOnly F work c input buffer = refl
 call_is SingleHelper F work c input buffer = refl
 
-module _ (k : Request) (F work c : ℕ) (input : Bytes) {w : Wanted} {r : Opening} (p : w ≡ wanted_by k) (e : r ≡ opening_of (open_input (wanted_reader w).1 F work c input)) where
+module _ (k : Request) (F work c : ℕ) (input : Bytes) {w : Wanted} {r : Res (Unit {0}) Refusal} (p : w ≡ wanted_by k) (e : r ≡ opening_of (open_input (wanted_reader w).1 F work c input)) where
   -- an input that is accepted
-  pub taken : AreBytes input → r ≡ Accepted → Taken k input F work c
+  pub taken : AreBytes input → r ≡ Ok tt → Taken k input F work c
   taken ok is = go (open_input (reader_by k) F work c input) refl (sym is ∙ opening_by k F work c input p e)
     where
-      go : (o : Opened (TreeOf (read_by k))) → open_input (reader_by k) F work c input ≡ o → Accepted ≡ opening_of o → Taken k input F work c
+      go : (o : Opened (TreeOf (read_by k))) → open_input (reader_by k) F work c input ≡ o → Ok tt ≡ opening_of o → Taken k input F work c
       go (opened t) q z =
           let st : OpenedFrom (reader_by k) F c input t = rw q at (start (reader_by k) F work c input) in
           let f = fine_by k F work c input t ok st.size q in
@@ -121,11 +118,11 @@ module _ (k : Request) (F work c : ℕ) (input : Bytes) {w : Wanted} {r : Openin
       go (closed r) q z = let no : ◌≡◌ {A = ℕ} 0 1 = cc in absurd (omega (arith, no))
 
   -- one that is refused
-  pub call_refused : (q : Refusal) (buffer : Bytes) → r ≡ Refused q → call_by k F work c input buffer ≡ refused_answer c buffer q
+  pub call_refused : (q : Refusal) (buffer : Bytes) → r ≡ Err q → call_by k F work c input buffer ≡ refused_answer c buffer q
   unfolding call_run answered
   call_refused q buffer is = call_is k F work c input buffer ∙ go (open_input (reader_by k) F work c input) (sym is ∙ opening_by k F work c input p e)
     where
-      go : (o : Opened (TreeOf (read_by k))) → Refused q ≡ opening_of o
+      go : (o : Opened (TreeOf (read_by k))) → Err q ≡ opening_of o
           → answered (tree_bytes (read_by k)) c buffer (elim o as (λ _. Out (TreeOf (read_by k))) [ closed r ↦ stopped [] r | opened a ↦ walk_by k F a c 0 ]) ≡ refused_answer c buffer q
       go (opened t) z = let no : ◌≡◌ {A = ℕ} 0 1 = cc in absurd (omega (arith, no))
       go (closed r) z = let same : r ≡ q = cc in ap (refused_answer c buffer) same
@@ -150,34 +147,15 @@ answered_refuses : {A : Type 0} (bytes : A → Bytes) (c : ℕ) (buffer : Bytes)
 unfolding answered
 answered_refuses bytes c buffer o q e = ap (answered bytes c buffer) (ended_stops o e).1
 
--- what is delivered of a step that is done
-module _ {step : Step} {n w c' : ℕ} (is : step ≡ Done n w c') (made : Bytes) (p : MadeWithin step (length made)) where
-  -- the result is as long as told
-  pub made_length : length (take w made) ≡ w
-  made_length = length-take-le w made (rw is at p)
-
-  -- 8 where it does not fit the buffer
-  pub answer_short : (c : ℕ) (buffer : Bytes) → length buffer < w → step_answer c made buffer step ≡ refused_answer c buffer (placeless 8)
-  answer_short c buffer lt = rw is (delivered_short c buffer (take w made) c' (omega (arith, made_length)))
-
-  -- else it is written
-  pub answer_fits : (c : ℕ) {buffer out : Bytes} → w ≤ length buffer → Filled buffer out 0 (take w made) (length (take w made)) → step_answer c made buffer step ≡ (accepted_answer c' 0 w, out)
-  answer_fits c {buffer} {out} le f = rw is (delivered_fits c buffer (take w made) c' (omega (arith, made_length)) ∙ rw (made_length, ← filled_written f))
-
--- a result that stands at free is delivered, or the refusal is told
-module _ {A : Type 0} (bytes : A → Bytes) (c : ℕ) (o : Out A) {new : Bytes} {free n : ℕ} {r : Step} where
-  gives_within : Gives bytes new free n (outcome o) r → MadeWithin r (length (part new free (length new - free)))
-  gives_within (gave u c' e is there) = rw is (omega (arith, (into there).fits))
-  gives_within (refused q e is) = rw is tt
-
-  gives_answer : (buffer : Bytes) → Gives bytes new free n (outcome o) r → step_answer c (part new free (length new - free)) buffer r ≡ answered bytes c buffer o
-  gives_answer buffer (gave u c' e is there) = rw (is, (into there).there) (sym (answered_gives bytes c buffer o u c' e))
-  gives_answer buffer (refused q e is) = rw is (sym (answered_refuses bytes c buffer o q e))
-
 module _ (k : Request) {input : Bytes} {F c : ℕ} (work : Bytes) (t : Taken k input F (length work) c) where
   -- it is copied to the start of work memory
   pub copies : length input ≤ length work
   copies = omega (arith, t.short, t.enough)
+
+  -- the call answers its walk
+  ran : (buffer : Bytes) → call_by k F (length work) c input buffer ≡ answered (tree_bytes (read_by k)) c buffer (walk_by k F t.tree c 0)
+  unfolding call_run
+  ran buffer = call_is k F (length work) c input buffer ∙ rw (t.opens, call_run)
 
   module _ {old : Bytes} (f : Filled work old 0 input (length input)) where
     -- it stands there
@@ -200,7 +178,7 @@ module _ (k : Request) {input : Bytes} {F c : ℕ} (work : Bytes) (t : Taken k i
       longest = t.longest;
     }
 
-    module _ {new : Bytes} {r : Step} (w : WalksCall k old new (call_task (length input) F c) r) where
+    module _ {new : Bytes} {r : Result Step Refusal} (w : WalksCall k old new (call_task (length input) F c) r) where
       -- what the walk answers of it
       walked : Gives (tree_bytes (read_by k)) new (length input) (length (tree_bytes (read_by k) t.tree)) (outcome (walk_by k F t.tree c 0)) r
       walked = w.says [] no_map t.tree there (omega (arith, ap length t.is)) t.fine
@@ -209,20 +187,29 @@ module _ (k : Request) {input : Bytes} {F c : ℕ} (work : Bytes) (t : Taken k i
       pub walked_long : length input ≤ length new
       walked_long = omega (arith, copies, w.frame.size, f.frame.size)
 
-      -- the result stands within the part from free on
-      pub walked_within : MadeWithin r (length (part new (length input) (length new - length input)))
-      walked_within = gives_within (tree_bytes (read_by k)) c (walk_by k F t.tree c 0) walked
+      -- a refusal is the call's
+      pub walked_refuses : (q : Refusal) → r ≡ Err q → (buffer : Bytes) → refused_answer c buffer q ≡ call_by k F (length work) c input buffer
+      walked_refuses q e buffer = sym (ran buffer ∙ answered_refuses (tree_bytes (read_by k)) c buffer (walk_by k F t.tree c 0) q (unmade q e walked))
 
-      -- and what is delivered of it is what the call answers
-      pub walked_answers : (buffer : Bytes) → step_answer c (part new (length input) (length new - length input)) buffer r ≡ call_by k F (length work) c input buffer
-      unfolding call_run
-      walked_answers buffer = gives_answer (tree_bytes (read_by k)) c (walk_by k F t.tree c 0) buffer walked ∙ sym (call_is k F (length work) c input buffer ∙ rw (t.opens, call_run))
+      module _ (i n d : ℕ) (e : r ≡ step_of i n d) where
+        -- what it gives
+        got : Made (tree_bytes (read_by k)) new (length input) (length (tree_bytes (read_by k) t.tree)) (outcome (walk_by k F t.tree c 0)) i n d
+        got = made i n d e walked
+
+        -- the result stands within the part from free on
+        pub walked_within : n ≤ length (part new (length input) (length new - length input))
+        walked_within = omega (arith, got.wrote, (into got.out).fits)
+
+        -- and what is delivered of it is what the call answers
+        pub walked_answers : (buffer : Bytes) → delivered c buffer (take n (part new (length input) (length new - length input))) d ≡ call_by k F (length work) c input buffer
+        walked_answers buffer =
+            rw (got.wrote, (into got.out).there) (sym (ran buffer ∙ answered_gives (tree_bytes (read_by k)) c buffer (walk_by k F t.tree c 0) got.u d got.is))
 
 -- the walk of a call that is known is by its rule
 pub ready_by : (j : Request) {k : Request} {mem : Bytes} {t : Task} → k ≡ j → CallReady k mem t → CallReady j mem t
 ready_by j {mem = mem} {t} e p = subst (λ (x : Request). CallReady x mem t) e p
 
-module _ {k : Request} {old new : Bytes} {r : Step} (free F c : ℕ) where
+module _ {k : Request} {old new : Bytes} {r : Result Step Refusal} (free F c : ℕ) where
   -- Whole form
   pub walks_whole : k ≡ WholeForm → WalksTree Compileform true old new (call_task free F c) r → WalksCall k old new (call_task free F c) r
   unfolding whole_walk
@@ -239,5 +226,5 @@ module _ {k : Request} {old new : Bytes} {r : Step} (free F c : ℕ) where
   walks_helper e w = rw e w
 
 -- an answer that is a call's has what demand 3 says of the call's
-pub told : {F : ℕ} {list : List Visit} {x y : Result} → x ≡ y → AssignsOrdered F list y.0.refusal → (x ≡ y) × AssignsOrdered F list x.0.refusal
-told {F} {list} e p = (e, subst (λ (z : Result). AssignsOrdered F list z.0.refusal) (sym e) p)
+pub told : {F : ℕ} {list : List Visit} {x y : CallResult} → x ≡ y → AssignsOrdered F list y.0.refusal → (x ≡ y) × AssignsOrdered F list x.0.refusal
+told {F} {list} e p = (e, subst (λ (z : CallResult). AssignsOrdered F list z.0.refusal) (sym e) p)

@@ -17,7 +17,6 @@ use Rattle.names.proofs.Places.{at_left, at_right, at_place, at_join}
 use Rattle.records.specs.StepAnswer.{gives, Gives}
 use Rattle.records.specs.Records.{Sexp, sexp_bytes}
 use Rattle.records.specs.declared.Step.{Step}
-use Rattle.records.specs.declared.Step.TheVariants.{Refused as Unwritten}
 use Rattle.walk.specs.Arena.{MapAt, outcome}
 use Rattle.walk.specs.FormWalks.{RestOf, rest_bytes, both_by, with_args, FineRenewed, RenewedReady, WalksRenewed, BothRestReady, WalksBothRest, ComesOut}
 use Rattle.walk.specs.NewNames.{ArgsReady, ArgsDrawn, DrawsArgs}
@@ -26,9 +25,7 @@ use Rattle.walk.specs.Room.{room}
 use Rattle.walk.specs.Steps.{M, ◌>>=◌, ret, step}
 use Rattle.walk.specs.Walking.{Finishes}
 use Rattle.walk.specs.declared.Drawn.{Drawn}
-use Rattle.walk.specs.declared.Drawn.TheVariants.{Done, Refused as Stopped}
 use Rattle.walk.specs.declared.Piece.{Piece}
-use Rattle.walk.specs.declared.Piece.TheVariants.{Done as Took, Refused as Halted}
 use Rattle.walk.specs.declared.Rest.{Rest}
 use Rattle.walk.specs.declared.Task.{Task}
 use Rattle.walk.proofs.DoneLaws.{then_done, then_stops, outcome_done, outcome_stops}
@@ -42,6 +39,10 @@ use Rattle.walk.proofs.Results.{room_down, counter_least, invent_draws}
 use Rattle.walk.proofs.Unique.{Unique, same_pair, unique_first, unique_sexp, tells_of}
 use Rattle.walk.proofs.Views.{least_sexp}
 use Rattle.walk.proofs.Wholes.{from_length, whole_frame, whole_at, finished_as, refused_as}
+use Rattle.std.specs.declared.result.Result.{Result}
+use Rattle.std.specs.declared.result.Result.TheVariants.{Err}
+use Rattle.walk.specs.RuleAnswers.{drawn_of}
+use Rattle.walk.specs.RuleAnswers.{piece_of}
 
 -- one pair of args and a rest at most stands behind a head
 unique_renewed : (k : Rest) (head : Bytes) (F d : ℕ) → Unique (with_args k head) (FineRenewed k head F d)
@@ -121,7 +122,7 @@ module _ {k : Rest} {old : Bytes} {args : ℕ} {t : Task} (p : RenewedReady k ol
           counts = counter_least t.counter (length (sexp_bytes a)) (omega (arith, p.ready.counts)) (omega (arith, places.1, p.ready.longest));
         }
 
-    module _ {y : Bytes} {r : Drawn} (d : DrawsArgs (from one args) y free true F t.counter r) where
+    module _ {y : Bytes} {r : Result Drawn Refusal} (d : DrawsArgs (from one args) y free true F t.counter r) where
       -- memory after them
       abbrev two : Bytes
       two = rejoin one args y
@@ -151,16 +152,16 @@ module _ {k : Rest} {old : Bytes} {args : ℕ} {t : Task} (p : RenewedReady k ol
       run = args_then F true a then_rest
 
       -- what is given of the record that is known is the answer
-      renewed_tells : {new : Bytes} {z : Step} → SameOutside old new free (length old)
+      renewed_tells : {new : Bytes} {z : Result Step Refusal} → SameOutside old new free (length old)
           → Gives (with_args k head) new free (length (with_args k head tree)) (outcome (step F (λ v. length (with_args k head v)) run t.counter 0)) z → WalksRenewed k old new args t z
       renewed_tells f g = tells_of (unique_renewed k head F t.depth) p.ready (same_wider free (length old - t.map) (omega arith) (omega (arith, p.ready.lone refl)) f) g
 
       -- the args are refused
-      pub renewed_stopped : (q : Refusal) → r ≡ Stopped q → WalksRenewed k old two args t (Unwritten q)
+      pub renewed_stopped : (q : Refusal) → r ≡ Err q → WalksRenewed k old two args t (Err q)
       renewed_stopped q z = renewed_tells two_frame (refused_as (with_args k head) F run t.counter (args_halted F 0 then_rest q (omega arith) z answer) refl)
 
       -- they are drawn for
-      module _ (i w len c' : ℕ) (g : r ≡ Done i w len c') where
+      module _ (i w len c' : ℕ) (g : r ≡ drawn_of i w len c') where
         got : ArgsGot true a y free F t.counter i w len c'
         got = args_got i w len c' g answer
 
@@ -221,7 +222,7 @@ module _ {k : Rest} {old : Bytes} {args : ℕ} {t : Task} (p : RenewedReady k ol
               held = got.short;
             }
 
-        module _ {x : Bytes} {o : Piece} (b : WalksBothRest k (from two q) x w rest_task o) where
+        module _ {x : Bytes} {o : Result Piece Refusal} (b : WalksBothRest k (from two q) x w rest_task o) where
           -- memory after both rules
           abbrev three : Bytes
           three = rejoin two q x
@@ -249,13 +250,13 @@ module _ {k : Rest} {old : Bytes} {args : ℕ} {t : Task} (p : RenewedReady k ol
               args_go_on F true a t.counter 0 then_rest got.runs (omega (arith, got.short)) ∙ ap (λ (z : ℕ). outcome (then_rest got.m new_args c' z)) n
 
           -- the rest is refused
-          pub renewed_halted : (j : Refusal) → o ≡ Halted j → WalksRenewed k old three args t (Unwritten j)
+          pub renewed_halted : (j : Refusal) → o ≡ Err j → WalksRenewed k old three args t (Err j)
           renewed_halted j z =
               renewed_tells three_frame
               (refused_as (with_args k head) F run t.counter (goes_on ∙ outcome_stops (then_stops rest_run (λ r. ret (new_args, r)) (stayed_as j z comes))) refl)
 
           -- all of it is written
-          module _ (j u s n : ℕ) (z : o ≡ Took j u s n) where
+          module _ (j u s n : ℕ) (z : o ≡ piece_of j u s n) where
             done : Came (rest_bytes k) F x rest_task.free (length (rest_bytes k e)) rest_run c' w j u s n
             done = came_as j u s n z comes
 
@@ -291,6 +292,6 @@ module _ {k : Rest} {old : Bytes} {args : ℕ} {t : Task} (p : RenewedReady k ol
             renewed_sums = (omega (arith, done.read, renewed_places.0), omega (arith, rest_out.fits, done.wrote, three_frame.size))
 
             -- the record is finished
-            pub renewed_finished : {z : Step} → Finishes (q + j) (args + w + u) F n z → WalksRenewed k old three args t z
+            pub renewed_finished : {z : Result Step Refusal} → Finishes (q + j) (args + w + u) F n z → WalksRenewed k old three args t z
             renewed_finished f =
                 renewed_tells three_frame (finished_as (with_args k head) run t.counter f gives_made (omega (arith, done.read, got.read, all_length tree)) (omega (arith, made_length)) made_out)

@@ -9,6 +9,8 @@ use Rattle.walk.specs.declared.Rest.{Rest}
 use Rattle.walk.specs.declared.Rest.TheVariants.{OneBody, OneForm}
 use Rattle.walk.specs.declared.Task.{Task}
 use Rattle.walk.specs.declared.Way.{Way}
+use Rattle.std.specs.declared.result.Result.{Result}
+use Rattle.names.specs.declared.Refusal.{Refusal}
 
 module _ {k : Rest} {way : Way} {old : Bytes} {sum : ℕ} {t : Task} where
   -- what is asked of it
@@ -16,7 +18,7 @@ module _ {k : Rest} {way : Way} {old : Bytes} {sum : ℕ} {t : Task} where
   rest_as j e p = subst (λ (i : Rest). RestReady i way old sum t) e p
 
   -- what is answered; the first argument names the way and the sum
-  pub rest_walks : RestReady k way old sum t → {new : Bytes} {r : Piece} (j : Rest) → k ≡ j → WalksRest j way old new sum t r → WalksRest k way old new sum t r
+  pub rest_walks : RestReady k way old sum t → {new : Bytes} {r : Result Piece Refusal} (j : Rest) → k ≡ j → WalksRest j way old new sum t r → WalksRest k way old new sum t r
   rest_walks p {new} {r} j e s = subst (λ (i : Rest). WalksRest i way old new sum t r) (sym e) s
 
   -- a body as a child, and a CF

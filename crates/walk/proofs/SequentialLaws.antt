@@ -20,7 +20,6 @@ use Rattle.records.specs.Valid.{IsLet}
 use Rattle.records.specs.Views.{SeesLet}
 use Rattle.records.specs.declared.LetView.{LetView}
 use Rattle.records.specs.declared.Step.{Step}
-use Rattle.records.specs.declared.Step.TheVariants.{Done, Refused}
 use Rattle.records.proofs.StepAnswers.{made, unmade}
 use Rattle.walk.specs.Arena.{Asks, fitting, outcome}
 use Rattle.walk.specs.Bodyforms.{desugar_sequential_let_bindings, rename_args_desugared, rename_args_sequential, rename_args_bodyform, walk}
@@ -44,6 +43,9 @@ use Rattle.walk.proofs.RunLaws.{Neutral, neutral_ret, neutral_rule, neutral_step
 use Rattle.walk.proofs.Sizes.{depth_desugar, depth_list_of, atoms_desugar}
 use Rattle.walk.proofs.Unique.{tells_of, unique_fine}
 use Rattle.walk.proofs.Wholes.{from_length, whole_frame, whole_gives}
+use Rattle.std.specs.declared.result.Result.{Result}
+use Rattle.std.specs.declared.result.Result.TheVariants.{Err}
+use Rattle.records.specs.StepAnswer.{step_of}
 
 -- the bindings and the body of a let
 unfoldable pub left_of : Body → Left
@@ -209,21 +211,21 @@ module _ {mem : Bytes} {t : Task} (p : BodyReady (IsLet Sequential) true mem t) 
       }
 
   -- the let is desugared
-  module _ {a : Bytes} {r : Step} (s : Desugars mem a (lone_task t) r) where
+  module _ {a : Bytes} {r : Result Step Refusal} (s : Desugars mem a (lone_task t) r) where
     got : Gives body_bytes a t.free (length (body_bytes p.tree)) (fitting body_bytes t.f t.counter (nested (left_of p.tree))) r
     got =
         subst (λ (b : Body). Gives body_bytes a t.free (length (body_bytes p.tree)) (fitting body_bytes t.f t.counter b) r) (nested_is p.tree)
         (s.says [] no_map p.tree p.there p.below (record { valid = p.good.valid; only = p.good.only }))
 
     -- too long
-    pub sequential_long : (k : Refusal) → r ≡ Refused k → Walks (IsLet Sequential) true mem a t (Refused k)
+    pub sequential_long : (k : Refusal) → r ≡ Err k → Walks (IsLet Sequential) true mem a t (Err k)
     sequential_long k e =
         let z = refused_long body_bytes t.f t.counter (nested (left_of p.tree)) k (unmade k e got) in
         tells_of unique_fine p (same_wider t.free (length mem - t.map) (omega arith) (omega (arith, p.room, p.lone refl, level)) s.frame)
         (refused k (own_long t.f t.depth (omega (arith, two)) p.m p.tree t.counter p.good.only z.long ∙ ap refuses (sym z.is)) refl)
 
     -- and fits
-    module _ (i w c : ℕ) (e : r ≡ Done i w c) {count : ℕ} (many : count ≡ count_of p.tree) where
+    module _ (i w c : ℕ) (e : r ≡ step_of i w c) {count : ℕ} (many : count ≡ count_of p.tree) where
       fine_left : length (nested_bytes (left_of p.tree)) ≤ t.f → FineNested count t.f t.depth (left_of p.tree)
       fine_left le = subst (λ (n : ℕ). FineNested n t.f t.depth (left_of p.tree)) (sym many) (nested_fine p.tree p.good le)
 
@@ -248,7 +250,7 @@ module _ {mem : Bytes} {t : Task} (p : BodyReady (IsLet Sequential) true mem t) 
           }
 
       -- Own of it
-      module _ {y : Bytes} {q : Step} (z : WalksNested (from a t.free) y count (nested_task t w c) q) where
+      module _ {y : Bytes} {q : Result Step Refusal} (z : WalksNested (from a t.free) y count (nested_task t w c) q) where
         abbrev end : Bytes
         end = rejoin a t.free y
 
@@ -275,19 +277,19 @@ module _ {mem : Bytes} {t : Task} (p : BodyReady (IsLet Sequential) true mem t) 
             same_then t.free (length mem - t.map) (omega arith) (omega arith) (omega (arith, p.room, level)) (omega arith) s.frame nested_frame
 
         -- it is refused
-        pub sequential_refused : (k : Refusal) → q ≡ Refused k → Walks (IsLet Sequential) true mem end t (Refused k)
+        pub sequential_refused : (k : Refusal) → q ≡ Err k → Walks (IsLet Sequential) true mem end t (Err k)
         sequential_refused k x =
             tells_of unique_fine p framed
             (refused k (own_refuses t.f t.depth (omega (arith, two)) p.m p.tree t.counter p.good.only stands.short (unmade k x nested_gives)) refl)
 
         -- its result can move down
-        pub sequential_moves : (j v d : ℕ) → q ≡ Done j v d → Movable end (t.free + w) t.free v
+        pub sequential_moves : (j v d : ℕ) → q ≡ step_of j v d → Movable end (t.free + w) t.free v
         sequential_moves j v d x =
             let g = made j v d x nested_gives in
             record { source = omega (arith, g.out.fits, g.wrote); target = omega (arith, g.out.fits, g.wrote); safe = inr (omega arith) }
 
         -- and is then the let's
-        pub sequential_done : {zs : Bytes} (j v d : ℕ) → q ≡ Done j v d → Filled end zs t.free (drop (t.free + w) end) v → Walks (IsLet Sequential) true mem zs t (Done i v d)
+        pub sequential_done : {zs : Bytes} (j v d : ℕ) → q ≡ step_of j v d → Filled end zs t.free (drop (t.free + w) end) v → Walks (IsLet Sequential) true mem zs t (step_of i v d)
         sequential_done {zs} j v d x f =
             let g = made j v d x nested_gives in
             let len = g.wrote in

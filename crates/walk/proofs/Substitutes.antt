@@ -15,7 +15,6 @@ use Rattle.records.specs.StepAnswer.{Gives, gave, refused}
 use Rattle.records.specs.Records.{head_width, Sexp, SA, sexp_bytes}
 use Rattle.records.proofs.AnySexp.{bytes_are}
 use Rattle.records.specs.declared.Step.{Step}
-use Rattle.records.specs.declared.Step.TheVariants.{Done, Refused}
 use Rattle.records.specs.Views.{SexpAt, nil_at, pair_at, integer_at, text_at, atom_at, SeesSexp}
 use Rattle.records.specs.declared.NameView.{NameView}
 use Rattle.records.specs.declared.SexpView.{SexpView}
@@ -28,10 +27,14 @@ use Rattle.walk.specs.declared.Task.{Task}
 use Rattle.walk.proofs.Fits.{done_is, fitting_fits, fitting_long, same_bytes}
 use Rattle.names.proofs.Fields.{name_field_length}
 use Rattle.walk.proofs.Views.{NoAtom, AtomAt, atom}
+use Rattle.std.specs.declared.result.Result.{Result}
+use Rattle.names.specs.declared.Refusal.{Refusal}
+use Rattle.std.specs.declared.result.Result.TheVariants.{Err}
+use Rattle.records.specs.StepAnswer.{step_of}
 
 -- the first n bytes kept
 pub bytes_kept : {old new : Bytes} {n : ℕ} {t : Task} → Filled old new t.free (drop 0 old) n → n ≤ t.f → n ≤ t.free → t.free + t.f ≤ length old
-    → KeepsBytes old new n t (Done n n t.counter)
+    → KeepsBytes old new n t (step_of n n t.counter)
 bytes_kept {old} {n = n} {t} w le low fit =
     let l : length (take n old) ≡ n = length-take-le n old (omega arith) in
     let out = copied_at 0 t.free w (omega arith) (at_own old 0 n (omega arith)) (omega arith) (omega arith) (omega arith) in
@@ -40,13 +43,13 @@ bytes_kept {old} {n = n} {t} w le low fit =
       says = gave (take n old) t.counter (fitting_fits as_bytes t.f t.counter (take n old) (omega arith)) (done_is refl (sym l) refl) out;
     }
 
-pub bytes_over_long : {old : Bytes} {n : ℕ} {t : Task} {r : Step} → r ≡ Refused over_long → t.f < n → n ≤ length old → KeepsBytes old old n t r
+pub bytes_over_long : {old : Bytes} {n : ℕ} {t : Task} {r : Result Step Refusal} → r ≡ Err over_long → t.f < n → n ≤ length old → KeepsBytes old old n t r
 bytes_over_long {old} {n} {t} is lt low =
     let l : length (take n old) ≡ n = length-take-le n old low in
     record { frame = same_refl; says = refused over_long (fitting_long as_bytes t.f t.counter (take n old) (omega arith)) is }
 
 -- of every kind of record: they are a tree that the rule keeps
-pub trees_kept : {A : Type 0} (bytes : A → Bytes) {Good : A → Type 0} (rule : NameMap → A → A) {old new : Bytes} {n : ℕ} {t : Task} {r : Step} → KeepsBytes old new n t r
+pub trees_kept : {A : Type 0} (bytes : A → Bytes) {Good : A → Type 0} (rule : NameMap → A → A) {old new : Bytes} {n : ℕ} {t : Task} {r : Result Step Refusal} → KeepsBytes old new n t r
     → ((m : NameMap) (a : A) → At old 0 (bytes a) → Good a → (n ≡ length (bytes a)) × (rule m a ≡ a))
     → Says bytes Good bytes (λ m a. fitting bytes t.f t.counter (rule m a)) old new t r
 trees_kept {A} bytes rule {old} {new} {n} {t} {r} k h =
@@ -108,7 +111,7 @@ module _ (t : Task) {mem found : Bytes} {v : NameView}
   found_name {m = m} at k = look m (map_part at) ∙ ap (renamed m) (bytes_are k.name)
 
   module _ (x : SeesSexp mem (Atom v)) where
-    pub atom_long : {r : Step} → r ≡ Refused over_long → t.f < atom_size (length found) → Substitutes rename_atom mem mem t r
+    pub atom_long : {r : Result Step Refusal} → r ≡ Err over_long → t.f < atom_size (length found) → Substitutes rename_atom mem mem t r
     atom_long is lt =
         record {
           frame = same_refl;
@@ -120,7 +123,7 @@ module _ (t : Task) {mem found : Bytes} {v : NameView}
         }
 
     pub atom_fits : {new : Bytes} → atom_size (length found) ≤ t.f → t.free + t.f ≤ length mem → Filled mem new t.free (named mem found) (length (named mem found))
-        → length (named mem found) ≡ atom_size (length found) → Substitutes rename_atom mem new t (Done v.end (atom_size (length found)) t.counter)
+        → length (named mem found) ≡ atom_size (length found) → Substitutes rename_atom mem new t (step_of v.end (atom_size (length found)) t.counter)
     atom_fits {new} le fit w sz =
         record {
           frame = same_wider t.free (t.free + t.f) (omega arith) (omega arith) w.frame;

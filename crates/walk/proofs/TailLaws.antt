@@ -14,7 +14,6 @@ use Rattle.names.proofs.Places.{at_place, at_get, at_right, at_join, at_whole}
 use Rattle.records.specs.StepAnswer.{Gives}
 use Rattle.records.specs.Records.{Body, body_bytes, Tail, no_tail, tail, tail_bytes, byte}
 use Rattle.records.specs.declared.Step.{Step}
-use Rattle.records.specs.declared.Step.TheVariants.{Done, Refused}
 use Rattle.records.proofs.StepAnswers.{Made, made, unmade}
 use Rattle.walk.specs.Arena.{outcome}
 use Rattle.walk.specs.Bodyforms.{call_tail}
@@ -24,7 +23,6 @@ use Rattle.walk.specs.Room.{room}
 use Rattle.walk.specs.Steps.{over_long, body_size}
 use Rattle.walk.specs.Walking.{rule, AnyBody, Fine, BodyReady, Walks, Leads, led, stopped}
 use Rattle.walk.specs.declared.Piece.{Piece}
-use Rattle.walk.specs.declared.Piece.TheVariants.{Done as Took, Refused as Stopped}
 use Rattle.walk.specs.declared.Task.{Task}
 use Rattle.walk.proofs.CallRuns.{no_tail_gives, tail_refuses, tail_over, tail_gives}
 use Rattle.walk.proofs.OnParts.{from, rejoin}
@@ -32,6 +30,10 @@ use Rattle.walk.proofs.Results.{rule_short}
 use Rattle.walk.proofs.RunLaws.{neutral_rule}
 use Rattle.walk.proofs.Unique.{Unique, unique_fine, tells_of}
 use Rattle.walk.proofs.Wholes.{from_length, whole_frame, whole_gives, map_from, took_is}
+use Rattle.std.specs.declared.result.Result.{Result}
+use Rattle.std.specs.declared.result.Result.TheVariants.{Err}
+use Rattle.walk.specs.RuleAnswers.{piece_of}
+use Rattle.records.specs.StepAnswer.{step_of}
 
 -- one tail at most stands at a place
 unique_tail : (F d : ℕ) → Unique tail_bytes (FineTail F d)
@@ -87,14 +89,14 @@ module _ {t : Task} {mem : Bytes} {owning : Bool} {sum : ℕ} (p : TailReady own
   tag_at : At tagged t.free (get_or mem 0 0 ∷ [])
   tag_at = filled_at t.free (filled_set mem t.free (get_or mem 0 0) (omega (arith, byte_fits))) (omega (arith, byte_fits)) (at_whole (get_or mem 0 0 ∷ [])) (omega arith) (omega arith)
 
-  abbrev Answers : Bytes → Tail → Piece → Type 0
+  abbrev Answers : Bytes → Tail → Result Piece Refusal → Type 0
   Answers new u r = Leads tail_bytes (MadeTail t.f) t.f new t.free (length (tail_bytes u)) (call_tail t.f (rule t.f owning t.depth p.ready.m) u) t.counter sum r
 
-  pub no_tail_walks : get_or mem 0 0 ≡ 0 → WalksTail owning mem tagged sum t (Took 1 1 sum t.counter)
+  pub no_tail_walks : get_or mem 0 0 ≡ 0 → WalksTail owning mem tagged sum t (piece_of 1 1 sum t.counter)
   unfolding tail_bytes byte
   no_tail_walks z =
       tells_of (unique_tail t.f t.depth) p.ready (same_wider t.free (length mem - t.map) (omega arith) (omega (arith, byte_fits)) tag_frame)
-      (subst (λ (u : Tail). Answers tagged u (Took 1 1 sum t.counter)) (sym (none p.ready.tree p.ready.there z))
+      (subst (λ (u : Tail). Answers tagged u (piece_of 1 1 sum t.counter)) (sym (none p.ready.tree p.ready.there z))
       (led no_tail t.counter sum (omega arith) p.held (λ k. no_tail_gives t.f (rule t.f owning t.depth p.ready.m) k t.counter sum) refl
       (subst (λ (v : ℕ). At tagged t.free (v ∷ [])) z tag_at)))
 
@@ -130,7 +132,7 @@ module _ {t : Task} {mem : Bytes} {owning : Bool} {sum : ℕ} (p : TailReady own
           longest = p.ready.longest;
         }
 
-    module _ {y : Bytes} {r : Step} (s : Walks AnyBody owning (from tagged 1) y task r) where
+    module _ {y : Bytes} {r : Result Step Refusal} (s : Walks AnyBody owning (from tagged 1) y task r) where
       abbrev end : Bytes
       end = rejoin tagged 1 y
 
@@ -151,15 +153,15 @@ module _ {t : Task} {mem : Bytes} {owning : Bool} {sum : ℕ} (p : TailReady own
           (s.says p.ready.m (map_from 1 tag_frame (omega (arith, byte_fits)) (omega (arith, byte_fits)) p.ready.map) one.b (into (at_below tag_frame one.here (omega arith))) (omega arith) one.fine)
 
       -- an answer of the tail that is there
-      answers : (r : Piece) → Answers end (tail one.b) r → WalksTail owning mem end sum t r
+      answers : (r : Result Piece Refusal) → Answers end (tail one.b) r → WalksTail owning mem end sum t r
       answers r g = tells_of (unique_tail t.f t.depth) p.ready all_frame (subst (λ (u : Tail). Answers end u r) (sym one.is) g)
 
-      pub tail_refused : (q : Refusal) → r ≡ Refused q → WalksTail owning mem end sum t (Stopped q)
+      pub tail_refused : (q : Refusal) → r ≡ Err q → WalksTail owning mem end sum t (Err q)
       tail_refused q e =
-          answers (Stopped q)
+          answers (Err q)
           (stopped q (λ k. tail_refuses t.f (rule t.f owning t.depth p.ready.m) k t.counter sum one.b (neutral_rule t.f owning t.depth p.ready.m one.b) q (unmade q e told)) refl)
 
-      module _ (i w d : ℕ) (e : r ≡ Done i w d) where
+      module _ (i w d : ℕ) (e : r ≡ step_of i w d) where
         known : Made body_bytes end (1 + t.free) (length (body_bytes one.b)) (outcome (rule t.f owning t.depth p.ready.m one.b t.counter 0)) i w d
         known = made i w d e told
 
@@ -167,21 +169,21 @@ module _ {t : Task} {mem : Bytes} {owning : Bool} {sum : ℕ} (p : TailReady own
         pub tail_sums : (i ≤ t.f) × (w ≤ t.f)
         tail_sums = (omega (arith, known.read, one.fine.short), omega (arith, known.wrote, rule_short t.f owning t.depth p.ready.m one.b t.counter known.is))
 
-        pub tail_too_long : (q : Refusal) → q ≡ over_long → t.f < sum + w → WalksTail owning mem end sum t (Stopped q)
+        pub tail_too_long : (q : Refusal) → q ≡ over_long → t.f < sum + w → WalksTail owning mem end sum t (Err q)
         unfolding body_size
         tail_too_long q o lt =
-            answers (Stopped q)
+            answers (Err q)
             (stopped over_long
             (λ k. tail_over t.f (rule t.f owning t.depth p.ready.m) k t.counter sum one.b (neutral_rule t.f owning t.depth p.ready.m one.b) known.is (omega (arith, known.wrote)))
-            (ap Stopped o))
+            (ap Err o))
 
-        pub tail_done : sum + w ≤ t.f → WalksTail owning mem end sum t (Took (1 + i) (1 + w) (sum + w) d)
+        pub tail_done : sum + w ≤ t.f → WalksTail owning mem end sum t (piece_of (1 + i) (1 + w) (sum + w) d)
         unfolding body_size tail_bytes
         tail_done le =
             let u = known.u in
             let tag = at_below child_frame (subst (λ (v : ℕ). At tagged t.free (v ∷ [])) one.tag tag_at) (omega arith) in
             let n : sum + length (body_bytes u) ≡ sum + w = omega (arith, known.wrote) in
-            answers (Took (1 + i) (1 + w) (sum + w) d)
+            answers (piece_of (1 + i) (1 + w) (sum + w) d)
             (led (tail u) d (sum + w) (omega (arith, known.wrote, tail_sums.1)) le
             (λ k.
             tail_gives t.f (rule t.f owning t.depth p.ready.m) k t.counter sum one.b (neutral_rule t.f owning t.depth p.ready.m one.b) known.is (omega (arith, known.wrote))

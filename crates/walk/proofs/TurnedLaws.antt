@@ -15,7 +15,6 @@ use Rattle.records.specs.Lists.{joined}
 use Rattle.records.specs.Records.{Loc, Kind, Assign, Body, BL, BQ, BV, BC, BM, BF, body_bytes, Binding, binding_bytes, Bindings, bindings_bytes, list_of, to_bindings}
 use Rattle.records.specs.Valid.{IsLet}
 use Rattle.records.specs.declared.Step.{Step}
-use Rattle.records.specs.declared.Step.TheVariants.{Refused}
 use Rattle.records.proofs.Lists.{list_count, list_bytes}
 use Rattle.walk.specs.Arena.{outcome}
 use Rattle.walk.specs.AssignWalks.{Placed, body_draws, turning, TurnedReady, Turns}
@@ -23,13 +22,15 @@ use Rattle.walk.specs.Bodyforms.{walk, args_then_in}
 use Rattle.walk.specs.Steps.{M, ◌>>=◌, ret, body_size}
 use Rattle.walk.specs.Walking.{count_of, from_sum, AnyBody, Fine, BothReady, WalksBoth, Leads, Finishes}
 use Rattle.walk.specs.declared.Piece.{Piece}
-use Rattle.walk.specs.declared.Piece.TheVariants.{Done as Took, Refused as Stopped}
 use Rattle.walk.specs.declared.Task.{Task}
 use Rattle.walk.proofs.LetLaws.{let_head, let_made, Let, let_parts}
 use Rattle.walk.proofs.OnParts.{from, rejoin}
 use Rattle.walk.proofs.RunLaws.{step_refuses}
 use Rattle.walk.proofs.Unique.{unique_fine, tells_of}
 use Rattle.walk.proofs.Wholes.{from_length, whole_frame, whole_leads, map_from, Led, took, halted, finished_gives}
+use Rattle.std.specs.declared.result.Result.{Result}
+use Rattle.std.specs.declared.result.Result.TheVariants.{Err}
+use Rattle.walk.specs.RuleAnswers.{piece_of}
 
 -- what an assign is
 pub record AssignParts (b : Body) : Type 0 where
@@ -115,7 +116,7 @@ module _ {mem : Bytes} {first body w sum : ℕ} {t : Task} (p : TurnedReady mem 
           held = p.held;
         }
 
-    module _ {y : Bytes} {r : Piece} (s : WalksBoth (from z body) y sum body_task r) where
+    module _ {y : Bytes} {r : Result Piece Refusal} (s : WalksBoth (from z body) y sum body_task r) where
       abbrev pub end : Bytes
       end = rejoin z body y
 
@@ -147,20 +148,20 @@ module _ {mem : Bytes} {first body w sum : ℕ} {t : Task} (p : TurnedReady mem 
       unfolding turning
       runs us = ap (λ (b : Body). outcome (turning t.f (walk t.f (t.depth - 1)) p.ready.m us b t.counter sum)) view.is
 
-      pub turned_refused : (k : Refusal) → r ≡ Stopped k → Turns mem end w sum t (Refused k)
+      pub turned_refused : (k : Refusal) → r ≡ Err k → Turns mem end w sum t (Err k)
       turned_refused k e =
           tells_of unique_fine p.ready all_frame λ us a l n.
           refused k (step_refuses t.f body_size _ t.counter 0 (runs us ∙ halted k e said (λ b. ret (result us b)))) refl
 
-      module _ {i x v d : ℕ} (e : r ≡ Took i x v d) where
+      module _ {i x v d : ℕ} (e : r ≡ piece_of i x v d) where
         got : Led body_bytes AnyBody t.f end (t.free + first + w) (length (body_bytes inside)) body_run t.counter sum i x v d
         got = took i x v d e said
 
         pub body_read : body + i ≡ length (body_bytes p.ready.tree)
         body_read = omega (arith, got.read, places)
 
-        pub body_short : x + (body + i) ≤ length end
-        body_short = omega (arith, got.out.fits, got.wrote, body_read, p.ready.below)
+        pub body_short : x + (body + i) ≤ length mem
+        body_short = omega (arith, got.out.fits, got.wrote, body_read, p.ready.below, all_frame.size)
 
         -- of one list of bindings that stands there
         module _ (us : List Binding) (at : At mem (t.free + 3 * t.f - w) (joined binding_bytes us)) (size : w ≡ length (joined binding_bytes us)) (many : length us ≡ count_of p.ready.tree) where
@@ -191,5 +192,5 @@ module _ {mem : Bytes} {first body w sum : ℕ} {t : Task} (p : TurnedReady mem 
           unfolding outcome ret
           given = runs us ∙ got.goes_on (λ b. ret (result us b))
 
-        pub turned_done : {q : Step} → Finishes (body + i) (first + w + x) t.f d q → Turns mem end w sum t q
+        pub turned_done : {q : Result Step Refusal} → Finishes (body + i) (first + w + x) t.f d q → Turns mem end w sum t q
         turned_done k = tells_of unique_fine p.ready all_frame (λ us a l n. finished_gives _ t.counter k (given us a l n) body_read (sym (result_size us a l n)) (stands us a l n))

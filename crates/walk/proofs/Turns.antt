@@ -15,7 +15,6 @@ use Rattle.names.proofs.Places.{at_place, at_left, at_right, at_join}
 use Rattle.records.specs.StepAnswer.{Gives}
 use Rattle.records.specs.Records.{Body, body_bytes, Bodies, []ᵇ, ◌∷ᵇ◌, bodies_bytes, bodies_count}
 use Rattle.records.specs.declared.Step.{Step}
-use Rattle.records.specs.declared.Step.TheVariants.{Done, Refused}
 use Rattle.records.proofs.StepAnswers.{Made, made, unmade}
 use Rattle.walk.specs.Arena.{MapAt, outcome}
 use Rattle.walk.specs.CallWalks.{every, EachFine, bodies_room, ElementsReady, MadeBodies, WalksElements, backs, BackRoom, PutsBack}
@@ -23,7 +22,6 @@ use Rattle.walk.specs.Draws.{atoms, bodies_atoms, dbl}
 use Rattle.walk.specs.Room.{room}
 use Rattle.walk.specs.Steps.{M, ◌>>=◌, over_long, body_size}
 use Rattle.walk.specs.Walking.{rule, AnyBody, Fine, BodyReady, Walks, Leads, led, stopped}
-use Rattle.walk.specs.declared.Piece.TheVariants.{Done as Took, Refused as Stopped}
 use Rattle.walk.specs.declared.Task.{Task}
 use Rattle.walk.proofs.CallRuns.{stays, none_left, first_refuses, first_over, first_gives}
 use Rattle.walk.proofs.OnParts.{from, rejoin}
@@ -31,6 +29,10 @@ use Rattle.walk.proofs.Results.{rule_draws, rule_short, some_level, least_room}
 use Rattle.walk.proofs.Sizes.{dbl_add}
 use Rattle.walk.proofs.Unique.{tells_of, unique_bodies}
 use Rattle.walk.proofs.Wholes.{from_length, whole_frame, whole_gives, map_from, took_is}
+use Rattle.std.specs.declared.result.Result.{Result}
+use Rattle.std.specs.declared.result.Result.TheVariants.{Err}
+use Rattle.walk.specs.RuleAnswers.{piece_of}
+use Rattle.records.specs.StepAnswer.{step_of}
 
 -- the loop's invariant: the frame, the sum held, the elements that are left, how the results so far stand before what those become, and the rest of the run
 pub record Looping (owning : Bool) (count : ℕ) (t : Task) (old mem : Bytes) (at sum c i : ℕ) : Type 0 where
@@ -78,12 +80,12 @@ loop_starts {owning} {count} {t} {old} p =
 
 -- after the last
 pub loop_ends : {owning : Bool} {count : ℕ} {t : Task} {old mem : Bytes} {at sum c i : ℕ} → Looping owning count t old mem at sum c i → count ≤ i
-    → WalksElements owning old mem count t (Took at sum sum c)
+    → WalksElements owning old mem count t (piece_of at sum sum c)
 unfolding bodies_count bodies_bytes
 loop_ends {owning} {count} {t} {old} {mem} {at} {sum} {c} {i} x le = tells_of unique_bodies x.asked x.frame (end x.rest refl (omega (arith, x.many)))
   where
     end : (rest : Bodies) → x.rest ≡ rest → bodies_count rest ≡ 0
-        → Leads bodies_bytes (MadeBodies t.f count) t.f mem t.free (length (bodies_bytes x.asked.tree)) (every t.f owning t.depth x.asked.m 0 x.asked.tree) t.counter 0 (Took at sum sum c)
+        → Leads bodies_bytes (MadeBodies t.f count) t.f mem t.free (length (bodies_bytes x.asked.tree)) (every t.f owning t.depth x.asked.m 0 x.asked.tree) t.counter 0 (piece_of at sum sum c)
     end []ᵇ e z =
         let w = x.wrap []ᵇ in
         let b = x.bytes []ᵇ ∙ append-nil x.made in
@@ -188,7 +190,7 @@ module _ {owning : Bool} {count : ℕ} {t : Task} {old mem : Bytes} {at sum c i 
         longest = p.longest;
       }
 
-  module _ {y : Bytes} {r : Step} (s : Walks AnyBody owning (from mem at) y task r) where
+  module _ {y : Bytes} {r : Result Step Refusal} (s : Walks AnyBody owning (from mem at) y task r) where
     abbrev end : Bytes
     end = rejoin mem at y
 
@@ -211,12 +213,12 @@ module _ {owning : Bool} {count : ℕ} {t : Task} {old mem : Bytes} {at sum c i 
         ≡ outcome ((every t.f owning t.depth p.m i (one.b ∷ᵇ one.more) >>= after k) c sum)
     split k = x.runs k ∙ ap (λ (q : Bodies). outcome ((every t.f owning t.depth p.m i q >>= after k) c sum)) one.is
 
-    pub turn_refused : (q : Refusal) → r ≡ Refused q → WalksElements owning old end count t (Stopped q)
+    pub turn_refused : (q : Refusal) → r ≡ Err q → WalksElements owning old end count t (Err q)
     turn_refused q e =
         tells_of unique_bodies p all_frame
         (stopped q (λ k. split k ∙ first_refuses t.f t.depth p.m one.b one.more (after k) c sum owning i q (unmade q e told)) refl)
 
-    module _ (j w d : ℕ) (e : r ≡ Done j w d) where
+    module _ (j w d : ℕ) (e : r ≡ step_of j w d) where
       got : Made body_bytes end (t.free + sum) (length (body_bytes one.b)) (outcome (rule t.f owning t.depth p.m one.b c 0)) j w d
       got = made j w d e told
 
@@ -226,11 +228,11 @@ module _ {owning : Bool} {count : ℕ} {t : Task} {old mem : Bytes} {at sum c i 
       pub turn_read : at + j ≤ t.free
       turn_read = omega (arith, got.read, place)
 
-      pub turn_too_long : (q : Refusal) → q ≡ over_long → t.f < sum + w → WalksElements owning old end count t (Stopped q)
+      pub turn_too_long : (q : Refusal) → q ≡ over_long → t.f < sum + w → WalksElements owning old end count t (Err q)
       unfolding body_size
       turn_too_long q o over =
           tells_of unique_bodies p all_frame
-          (stopped over_long (λ k. split k ∙ first_over t.f t.depth p.m one.b one.more (after k) c sum owning i got.is (omega (arith, got.wrote))) (ap Stopped o))
+          (stopped over_long (λ k. split k ∙ first_over t.f t.depth p.m one.b one.more (after k) c sum owning i got.is (omega (arith, got.wrote))) (ap Err o))
 
       behind : t.free + sum + j ≤ length end
       behind = omega (arith, got.read, one.fine.short, least_room t.f t.depth (some_level one.fine), wide, turn_frame.size)

@@ -3,7 +3,7 @@
 use mathlib.Core.Path.{◌≡◌, refl, sym, ap, subst, ◌∙◌}
 use mathlib.Core.Bool.{Bool}
 use mathlib.Core.List.{List, [], ◌∷◌, ◌++◌}
-use mathlib.Core.Option.{Option, none}
+use Rattle.std.specs.Prelude.{Option, None}
 use native.Mathlib.Omega.{arith}
 use Prim.Native.Nat.{ℕ, suc, ◌+◌, ◌-◌}
 use lib.ListN.{length, drop, take-append-drop, length-append}
@@ -33,7 +33,7 @@ use Rattle.walk.specs.declared.Task.{Task}
 same_tree : {A : Type 0} {P Q : Type 0} {o p : Option ℕ} {n k : ℕ} {m : Reader A} {a b : A} {bs cs : Bytes} (xs ys : Bytes) → Reads P o n k Plain m bs a → Reads Q p n k Plain m cs b
     → bs ++ xs ≡ cs ++ ys → a ≡ b
 same_tree {a = a} {b = b} {bs} xs ys r s e =
-    let i : Input = record { rest = bs ++ xs; offset = 0; first_mod = none } in
+    let i : Input = record { rest = bs ++ xs; offset = 0; first_mod = None } in
     let p = r.reads 0 i xs refl in
     let q = s.reads 0 i ys e in
     let z = sym p.ran ∙ q.ran in

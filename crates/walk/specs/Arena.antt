@@ -11,6 +11,8 @@ use Rattle.records.specs.Valid.{SexpFields, cons_depth}
 use Rattle.records.specs.declared.Step.{Step}
 use Rattle.walk.specs.Steps.{Out, done, refused, over_long}
 use Rattle.walk.specs.declared.Task.{Task}
+use Rattle.std.specs.declared.result.Result.{Result}
+use Rattle.names.specs.declared.Refusal.{Refusal}
 
 -- bytes are written at a place, and nothing else changes
 abbrev pub Writes : Bytes → Bytes → ℕ → Bytes → Type 0
@@ -33,7 +35,7 @@ pub record Asks {A : Type 0} (bytes : A → Bytes) (Good : A → Type 0) (mem : 
   pub room : t.free + t.f + t.map ≤ length mem
 
 -- what it answers: bytes change alone where the result has its room; and of every map and every tree that stand there, r is what the rule gives, as a tree of B
-pub record Says {A B : Type 0} (bytes : A → Bytes) (Good : A → Type 0) (made : B → Bytes) (rule : NameMap → A → Outcome B) (old new : Bytes) (t : Task) (r : Step) : Type 0 where
+pub record Says {A B : Type 0} (bytes : A → Bytes) (Good : A → Type 0) (made : B → Bytes) (rule : NameMap → A → Outcome B) (old new : Bytes) (t : Task) (r : Result Step Refusal) : Type 0 where
   pub frame : SameOutside old new t.free (t.free + t.f)
   pub says : (m : NameMap) → MapAt old t.map m → (a : A) → At old 0 (bytes a) → length (bytes a) ≤ t.free → Good a
       → Gives made new t.free (length (bytes a)) (rule m a) r
@@ -53,7 +55,7 @@ pub record Held (n : ℕ) (s : Sexp) : Type 0 where
   pub conses : cons_depth s ≤ n
 
 -- what a rule that makes one S record of another by a map answers
-abbrev pub Substitutes : (NameMap → Sexp → Sexp) → Bytes → Bytes → Task → Step → Type 0
+abbrev pub Substitutes : (NameMap → Sexp → Sexp) → Bytes → Bytes → Task → Result Step Refusal → Type 0
 Substitutes rule old new t r = Says sexp_bytes SexpFields sexp_bytes (λ m s. fitting sexp_bytes t.f t.counter (rule m s)) old new t r
 
 -- bytes as they are, for a result that is no tree
@@ -61,7 +63,7 @@ abbrev pub as_bytes : Bytes → Bytes
 as_bytes bs = bs
 
 -- the first n bytes stand at free too, or are too many
-pub record KeepsBytes (old new : Bytes) (n : ℕ) (t : Task) (r : Step) : Type 0 where
+pub record KeepsBytes (old new : Bytes) (n : ℕ) (t : Task) (r : Result Step Refusal) : Type 0 where
   pub frame : SameOutside old new t.free (t.free + t.f)
   pub says : Gives as_bytes new t.free n (fitting as_bytes t.f t.counter (take n old)) r
 

@@ -28,8 +28,10 @@ use Rattle.walk.specs.Room.{room}
 use Rattle.walk.specs.Steps.{M, ◌>>=◌, ret, sexp_size, body_size, child, further, step}
 use Rattle.walk.specs.Walking.{count_of, from_sum, AnyBody, Fine, Ready, Tells, BodyReady}
 use Rattle.walk.specs.declared.Made.{Made}
-use Rattle.walk.specs.declared.Made.TheVariants.{Done, Refused}
 use Rattle.walk.specs.declared.Task.{Task}
+use Rattle.std.specs.declared.result.Result.{Result}
+use Rattle.std.specs.declared.result.Result.TheVariants.{Err}
+use Rattle.walk.specs.RuleAnswers.{made_with}
 
 -- a binding that a step takes
 pub record AssignBinding (F d : ℕ) (b : Binding) : Type 0 where
@@ -67,10 +69,10 @@ pub record Within (F most size wrote len x x' : ℕ) : Type 0 where
 
 -- What a step on bindings answers that runs from the counter c and the sum x: its tree u, whose bytes stand at their place; the map that `u.0` says at the end of memory;
 -- the counter and the sum from which whatever follows goes on; or a refusal, whatever follows.
-pub data MakesRun {A : Type 0} (f : NameMap × A → Bytes) (Has : NameMap × A → Type 0) (F most size : ℕ) (new : Bytes) (place : ℕ → ℕ) (run : M (NameMap × A)) (c x : ℕ) (r : Made) : Type 0 where
-  made : (u : NameMap × A) (len c' x' : ℕ) → Has u → ((k : NameMap × A → M Body) → outcome ((run >>= k) c x) ≡ outcome (k u c' x')) → r ≡ Done (length (f u)) x' len c'
+pub data MakesRun {A : Type 0} (f : NameMap × A → Bytes) (Has : NameMap × A → Type 0) (F most size : ℕ) (new : Bytes) (place : ℕ → ℕ) (run : M (NameMap × A)) (c x : ℕ) (r : Result Made Refusal) : Type 0 where
+  made : (u : NameMap × A) (len c' x' : ℕ) → Has u → ((k : NameMap × A → M Body) → outcome ((run >>= k) c x) ≡ outcome (k u c' x')) → r ≡ made_with (length (f u)) x' len c'
       → At new (place (length (f u))) (f u) → MapAt new len u.0 → Within F most size (length (f u)) len x x' → MakesRun f Has F most size new place run c x r
-  stopped : (q : Refusal) → ((k : NameMap × A → M Body) → outcome ((run >>= k) c x) ≡ refuses q) → r ≡ Refused q → MakesRun f Has F most size new place run c x r
+  stopped : (q : Refusal) → ((k : NameMap × A → M Body) → outcome ((run >>= k) c x) ≡ refuses q) → r ≡ Err q → MakesRun f Has F most size new place run c x r
 
 -- whatever it is
 abbrev pub AnyMade : {A : Type 0} → A → Type 0
@@ -81,7 +83,7 @@ abbrev pub Shaped : Loc → Loc → NameMap × Binding → Type 0
 Shaped l nl u = (p : Sexp) × (b : Body) × (u.1 ≡ BB l nl (Complex p) b)
 
 -- its pattern and body, made at free
-abbrev pub MakesParts : Loc → Loc → ℕ → ℕ → ℕ → Bytes → ℕ → M (NameMap × Binding) → ℕ → ℕ → Made → Type 0
+abbrev pub MakesParts : Loc → Loc → ℕ → ℕ → ℕ → Bytes → ℕ → M (NameMap × Binding) → ℕ → ℕ → Result Made Refusal → Type 0
 MakesParts l nl F most size new free run c x r = MakesRun (λ u. inner u.1) (Shaped l nl) F most size new (λ n. free) run c x r
 
 -- a Complex pattern by the map, and In-body of what Own gave of the body; and before that, Own of the body
@@ -114,7 +116,7 @@ pub record RemakeReady (mem : Bytes) (w sum : ℕ) (t : Task) : Type 0 where
   pub longest : t.f ≤ most_longest
 
 -- what is answered of them
-pub record Remakes (old new : Bytes) (w sum : ℕ) (t : Task) (r : Made) : Type 0 where
+pub record Remakes (old new : Bytes) (w sum : ℕ) (t : Task) (r : Result Made Refusal) : Type 0 where
   pub frame : SameOutside old new t.free (length old - t.map)
   pub says : (m : NameMap) → MapAt old t.map m → (p : Sexp) → ValidSexp p → At old 0 (sexp_bytes p) → (o : Body) → Fine AnyBody t.f t.depth o → At old t.free (body_bytes o)
       → (l nl : Loc) → MakesParts l nl t.f t.map w new t.free (remaking t.f (walk t.f t.depth) l nl m p o) t.counter sum r
@@ -126,7 +128,7 @@ pub record NamedReady (mem : Bytes) (body sum : ℕ) (t : Task) : Type 0 where
   pub held : sum ≤ t.f
 
 -- what is answered of it
-abbrev pub MakesNamed : Bytes → Bytes → ℕ → Task → Made → Type 0
+abbrev pub MakesNamed : Bytes → Bytes → ℕ → Task → Result Made Refusal → Type 0
 MakesNamed old new sum t r =
     Tells parts_bytes (FineParts t.f t.depth)
     (λ m u. (l nl : Loc) → MakesParts l nl t.f t.map 0 new t.free (naming t.f (walk t.f t.depth) l nl m u.0 u.1) t.counter sum r) old new t
@@ -138,7 +140,7 @@ pub record ComplexReady (mem : Bytes) (sum : ℕ) (t : Task) : Type 0 where
   pub held : sum ≤ t.f
 
 -- what is answered of it
-abbrev pub MakesComplex : Bytes → Bytes → ℕ → Task → Made → Type 0
+abbrev pub MakesComplex : Bytes → Bytes → ℕ → Task → Result Made Refusal → Type 0
 MakesComplex old new sum t r =
     Tells parts_bytes (FineParts t.f t.depth)
     (λ m u. (l nl : Loc) → MakesParts l nl t.f (t.map + map_growth * length (sexp_bytes u.0)) 0 new t.free
@@ -152,7 +154,7 @@ pub record BindingReady (mem : Bytes) (n sum : ℕ) (t : Task) : Type 0 where
   pub held : sum ≤ t.f
 
 -- what is answered of it
-abbrev pub MakesBinding : Bytes → Bytes → ℕ → Task → Made → Type 0
+abbrev pub MakesBinding : Bytes → Bytes → ℕ → Task → Result Made Refusal → Type 0
 MakesBinding old new sum t r =
     Tells binding_bytes (AssignBinding t.f t.depth)
     (λ m b. MakesRun (λ u. binding_bytes u.1) AnyMade t.f (t.map + map_growth * length (binding_bytes b)) (length (binding_bytes b)) new (λ n. t.free)
@@ -193,7 +195,7 @@ pub record BindingsReady (mem : Bytes) (row starts : List ℕ) (t : Task) : Type
   pub longest : t.f ≤ most_longest
 
 -- what is answered of them
-pub record MakesBindings (old new : Bytes) (row starts : List ℕ) (t : Task) (r : Made) : Type 0 where
+pub record MakesBindings (old new : Bytes) (row starts : List ℕ) (t : Task) (r : Result Made Refusal) : Type 0 where
   pub frame : SameOutside old new (t.free - 2 * t.f) (length old)
   pub says : (bs : List Binding) → Each (AssignBinding t.f t.depth) bs → BindingStarts old starts bs
       → MakesRun (λ u. joined binding_bytes u.1) (λ u. length u.1 ≡ length row) t.f (map_growth * t.f) (at_all binding_size bs row) new (λ n. t.free - n)
@@ -243,7 +245,7 @@ pub record TurnedReady (mem : Bytes) (first body w sum : ℕ) (t : Task) : Type 
   pub held : sum ≤ t.f
 
 -- what is answered of it
-abbrev pub Turns : Bytes → Bytes → ℕ → ℕ → Task → Step → Type 0
+abbrev pub Turns : Bytes → Bytes → ℕ → ℕ → Task → Result Step Refusal → Type 0
 Turns old new w sum t r =
     Tells body_bytes (Fine (IsLet Assign) t.f t.depth)
     (λ m b. (us : List Binding) → At old (t.free + 3 * t.f - w) (joined binding_bytes us) → w ≡ length (joined binding_bytes us) → length us ≡ count_of b

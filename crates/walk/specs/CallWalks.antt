@@ -12,6 +12,8 @@ use Rattle.walk.specs.Steps.{M}
 use Rattle.walk.specs.Walking.{rule, AnyBody, Fine, Ready, Tells, Leads}
 use Rattle.walk.specs.declared.Piece.{Piece}
 use Rattle.walk.specs.declared.Task.{Task}
+use Rattle.std.specs.declared.result.Result.{Result}
+use Rattle.names.specs.declared.Refusal.{Refusal}
 
 -- Own or In-body of the elements of a call from the i-th on: element 0 is put back under In-body
 abbrev pub every : ℕ → Bool → ℕ → NameMap → ℕ → Bodies → M Bodies
@@ -54,7 +56,7 @@ abbrev pub ElementsReady : Bool → Bytes → ℕ → Task → Type 0
 ElementsReady owning mem count t = Ready owning bodies_bytes (FineBodies t.f t.depth count) (bodies_room t.f t.depth) (λ bs. dbl t.depth (bodies_atoms bs)) mem t
 
 -- what is answered of them
-abbrev pub WalksElements : Bool → Bytes → Bytes → ℕ → Task → Piece → Type 0
+abbrev pub WalksElements : Bool → Bytes → Bytes → ℕ → Task → Result Piece Refusal → Type 0
 WalksElements owning old new count t r =
     Tells bodies_bytes (FineBodies t.f t.depth count)
     (λ m bs. Leads bodies_bytes (MadeBodies t.f count) t.f new t.free (length (bodies_bytes bs)) (every t.f owning t.depth m 0 bs) t.counter 0 r) old new t
@@ -69,7 +71,7 @@ abbrev pub MadeTail : ℕ → Tail → Type 0
 MadeTail F u = length (tail_bytes u) ≤ 1 + F
 
 -- what is answered of it
-abbrev pub WalksTail : Bool → Bytes → Bytes → ℕ → Task → Piece → Type 0
+abbrev pub WalksTail : Bool → Bytes → Bytes → ℕ → Task → Result Piece Refusal → Type 0
 WalksTail owning old new sum t r =
     Tells tail_bytes (FineTail t.f t.depth)
     (λ m u. Leads tail_bytes (MadeTail t.f) t.f new t.free (length (tail_bytes u)) (call_tail t.f (rule t.f owning t.depth m) u) t.counter sum r) old new t

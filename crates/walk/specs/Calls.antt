@@ -1,7 +1,7 @@
 -- The calls Whole form, Children only and Single helper. docs/FORMAT.md, 'Calls'.
 -- Assumes nothing.
 use Rattle.std.specs.Prelude.{List, [], ℕ}
-use Rattle.names.specs.CallAnswer.{computing_answers, Result, refused_answer, delivered}
+use Rattle.names.specs.CallAnswer.{computing_answers, CallResult, refused_answer, delivered}
 use Rattle.names.specs.Names.{computing_names, Bytes}
 use Rattle.names.specs.Maps.{computing_maps}
 use Rattle.records.specs.Limits.{level_limit}
@@ -39,18 +39,18 @@ unfoldable pub helper_run : ℕ → ℕ → ℕ → Bytes → Out Helper
 helper_run = call_run (readers level_limit).helper helper_walk
 
 -- the answer to a run from the counter c: its result as bytes, or 8 where these do not fit the buffer, or its refusal
-unfoldable pub answered : {A : Type 0} → (A → Bytes) → ℕ → Bytes → Out A → Result
+unfoldable pub answered : {A : Type 0} → (A → Bytes) → ℕ → Bytes → Out A → CallResult
 answered bytes c buffer (done log r c' x) = delivered c buffer (bytes r) c'
 answered bytes c buffer (refused log r) = refused_answer c buffer r
 
 -- what each call answers
-unfoldable pub whole_call : ℕ → ℕ → ℕ → Bytes → Bytes → Result
+unfoldable pub whole_call : ℕ → ℕ → ℕ → Bytes → Bytes → CallResult
 whole_call F work c input buffer = answered form_bytes c buffer (whole_run F work c input)
 
-unfoldable pub children_call : ℕ → ℕ → ℕ → Bytes → Bytes → Result
+unfoldable pub children_call : ℕ → ℕ → ℕ → Bytes → Bytes → CallResult
 children_call F work c input buffer = answered form_bytes c buffer (children_run F work c input)
 
-unfoldable pub helper_call : ℕ → ℕ → ℕ → Bytes → Bytes → Result
+unfoldable pub helper_call : ℕ → ℕ → ℕ → Bytes → Bytes → CallResult
 helper_call F work c input buffer = answered helper_bytes c buffer (helper_run F work c input)
 
 -- the assigns that each reaches, in their sequence

@@ -12,8 +12,8 @@ use Rattle.walk.specs.Arena.{MapAt, outcome}
 use Rattle.walk.specs.Invent.{name_too_long, draw, invent_new_names_sexp}
 use Rattle.walk.specs.Steps.{Out}
 use Rattle.walk.specs.declared.Growth.{Growth}
-use Rattle.walk.specs.declared.Invented.{Invented}
-use Rattle.walk.specs.declared.Invented.TheVariants.{Drawn, Refused}
+use Rattle.std.specs.declared.result.Result.{Result}
+use Rattle.std.specs.declared.result.Result.TheVariants.{Ok, Err}
 
 -- a map grows by at most so many bytes for each byte of the records that it is drawn from
 abbrev pub map_growth : ℕ
@@ -53,9 +53,9 @@ pub record Grew (old new : Bytes) (len : ℕ) (g : Growth) : Type 0 where
   pub frame : SameOutside old new (length old - g.len) (length old - len)
 
 -- what an answer leaves in memory: the map that has grown; or at a refusal the map as it was, and all but `spare` bytes right below it as they were
-abbrev pub Grown : Bytes → Bytes → ℕ → ℕ → Invented → Type 0
-Grown old new len spare (Drawn g) = Grew old new len g
-Grown old new len spare (Refused r) = SameOutside old new (length old - (len + spare)) (length old - len)
+abbrev pub Grown : Bytes → Bytes → ℕ → ℕ → Result Growth Refusal → Type 0
+Grown old new len spare (Ok g) = Grew old new len g
+Grown old new len spare (Err r) = SameOutside old new (length old - (len + spare)) (length old - len)
 
 -- a record of `size` bytes drew no more than its room: the value that the run o gives from any sum, the map that f says it leaves, and the next record at e
 pub record Drew {A : Type 0} (o : ℕ → Out A) (f : A → NameMap) (mem : Bytes) (len c size e : ℕ) (g : Growth) : Type 0 where
@@ -72,9 +72,9 @@ pub record TooLong {A : Type 0} (o : ℕ → Out A) (r : Refusal) : Type 0 where
   pub is : r ≡ name_too_long
 
 -- r is the answer
-abbrev pub Draws : {A : Type 0} → (ℕ → Out A) → (A → NameMap) → Bytes → ℕ → ℕ → ℕ → ℕ → Invented → Type 0
-Draws o f mem len c size e (Drawn g) = Drew o f mem len c size e g
-Draws o f mem len c size e (Refused r) = TooLong o r
+abbrev pub Draws : {A : Type 0} → (ℕ → Out A) → (A → NameMap) → Bytes → ℕ → ℕ → ℕ → ℕ → Result Growth Refusal → Type 0
+Draws o f mem len c size e (Ok g) = Drew o f mem len c size e g
+Draws o f mem len c size e (Err r) = TooLong o r
 
 -- a name stands from start to end
 pub record NameFrom (mem : Bytes) (start end : ℕ) (n : Bytes) : Type 0 where
@@ -105,20 +105,20 @@ pub record EntryRoom (mem : Bytes) (at start end : ℕ) (new : Bytes) : Type 0 w
   pub fits : at + length (entry (between mem start end) new) ≤ length mem
 
 -- a name that is drawn for, and its entry
-abbrev pub Pushes : Bytes → Bytes → ℕ → ℕ → ℕ → ℕ → Invented → Type 0
+abbrev pub Pushes : Bytes → Bytes → ℕ → ℕ → ℕ → ℕ → Result Growth Refusal → Type 0
 Pushes old new start end len c r =
     (n : Bytes) → NameFrom old start end n → (m : NameMap) → MapAt old len m → Draws (draw n c) (λ n'. (n, n') ∷ m) new len c (atom_size (length n)) end r
 
 -- an SA of that name
-abbrev pub InventsAtom : Bytes → Bytes → ℕ → ℕ → ℕ → ℕ → Invented → Type 0
+abbrev pub InventsAtom : Bytes → Bytes → ℕ → ℕ → ℕ → ℕ → Result Growth Refusal → Type 0
 InventsAtom old new start end len c r =
     (l : Loc) (n : Bytes) → NameFrom old start end n → (m : NameMap) → MapAt old len m
     → Draws (invent_new_names_sexp m (SA l n) c) (λ m'. m') new len c (atom_size (length n)) end r
 
 -- an S record of this size: what is left in memory, and the answer
-pub record InventsFrom (old new : Bytes) (at len c : ℕ) (t : Sexp) (m : NameMap) (r : Invented) : Type 0 where
+pub record InventsFrom (old new : Bytes) (at len c : ℕ) (t : Sexp) (m : NameMap) (r : Result Growth Refusal) : Type 0 where
   pub grown : Grown old new len (map_growth * length (sexp_bytes t)) r
   pub draws : Draws (invent_new_names_sexp m t c) (λ m'. m') new len c (length (sexp_bytes t)) (at + length (sexp_bytes t)) r
 
-abbrev pub InventsSexp : Bytes → Bytes → ℕ → ℕ → ℕ → Invented → Type 0
+abbrev pub InventsSexp : Bytes → Bytes → ℕ → ℕ → ℕ → Result Growth Refusal → Type 0
 InventsSexp old new at len c r = (t : Sexp) → Roomy t old at len c → (m : NameMap) → MapAt old len m → InventsFrom old new at len c t m r

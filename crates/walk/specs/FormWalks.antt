@@ -23,12 +23,14 @@ use Rattle.walk.specs.Walking.{rule, AnyBody, Fine, Ready, Tells}
 use Rattle.walk.specs.declared.Child.{Child}
 use Rattle.walk.specs.declared.Child.TheVariants.{Bodyform, Helperform, Compileform}
 use Rattle.walk.specs.declared.Piece.{Piece}
-use Rattle.walk.specs.declared.Piece.TheVariants.{Done as Took, Refused as Stopped}
 use Rattle.walk.specs.declared.Rest.{Rest}
 use Rattle.walk.specs.declared.Rest.TheVariants.{OneBody, OneForm, Listed, Parts}
 use Rattle.walk.specs.declared.Task.{Task}
 use Rattle.walk.specs.declared.Way.{Way}
 use Rattle.walk.specs.declared.Way.TheVariants.{Own, In, Further}
+use Rattle.std.specs.declared.result.Result.{Result}
+use Rattle.std.specs.declared.result.Result.TheVariants.{Err}
+use Rattle.walk.specs.RuleAnswers.{piece_of}
 
 -- the trees of a kind of child
 abbrev pub TreeOf : Child → Type 0
@@ -87,19 +89,19 @@ abbrev pub TreeReady : Child → Bool → Bytes → Task → Type 0
 TreeReady k owning mem t = Ready owning (tree_bytes k) (FineTree k t.f t.depth) (λ u. room t.f t.depth) (λ u. dbl t.depth (tree_atoms k u)) mem t
 
 -- what is answered of it: the outcome of the rule, with the result at free
-abbrev pub WalksTree : Child → Bool → Bytes → Bytes → Task → Step → Type 0
+abbrev pub WalksTree : Child → Bool → Bytes → Bytes → Task → Result Step Refusal → Type 0
 WalksTree k owning old new t r =
     Tells (tree_bytes k) (FineTree k t.f t.depth)
     (λ m u. Gives (tree_bytes k) new t.free (length (tree_bytes k u)) (outcome (tree_rule t.f k owning t.depth m u t.counter 0)) r) old new t
 
 -- what is answered of an H record that is kept
-abbrev pub KeepsHelper : Bytes → Bytes → Task → Step → Type 0
+abbrev pub KeepsHelper : Bytes → Bytes → Task → Result Step Refusal → Type 0
 KeepsHelper old new t r =
     Tells helper_bytes (FineHelper t.f t.depth)
     (λ m u. Gives helper_bytes new t.free (length (helper_bytes u)) (fitting helper_bytes t.f t.counter u) r) old new t
 
 -- what is answered of a CF whose helpers and body go by the args-rules and whose args stay as they are
-abbrev pub WalksChildren : Bytes → Bytes → Task → Step → Type 0
+abbrev pub WalksChildren : Bytes → Bytes → Task → Result Step Refusal → Type 0
 WalksChildren old new t r =
     Tells form_bytes (FineForm t.f t.depth)
     (λ m u. Gives form_bytes new t.free (length (form_bytes u)) (outcome (step t.f form_size (rename_children_compileform t.f (walk t.f (t.depth - 1)) (form_walk t.f (t.depth - 1)) u) t.counter 0)) r) old new t
@@ -124,9 +126,9 @@ helpers_by F Further d m = further_helpers F ((form_walk F d).in_helperform m)
 
 -- What a piece of a rule answers whose run starts from the counter c and the sum x and reads n bytes: `came`, what the run gives, at free, with the counter and
 -- the sum then; `stayed`, its refusal.
-pub data ComesOut {A : Type 0} (bytes : A → Bytes) (F : ℕ) (new : Bytes) (free n : ℕ) (run : M A) (c x : ℕ) (r : Piece) : Type 0 where
-  came : (u : A) (c' x' : ℕ) → DoneWith (run c x) u c' x' → x' ≤ F → r ≡ Took n (length (bytes u)) x' c' → At new free (bytes u) → ComesOut bytes F new free n run c x r
-  stayed : (q : Refusal) → RefusedWith (run c x) q → r ≡ Stopped q → ComesOut bytes F new free n run c x r
+pub data ComesOut {A : Type 0} (bytes : A → Bytes) (F : ℕ) (new : Bytes) (free n : ℕ) (run : M A) (c x : ℕ) (r : Result Piece Refusal) : Type 0 where
+  came : (u : A) (c' x' : ℕ) → DoneWith (run c x) u c' x' → x' ≤ F → r ≡ piece_of n (length (bytes u)) x' c' → At new free (bytes u) → ComesOut bytes F new free n run c x r
+  stayed : (q : Refusal) → RefusedWith (run c x) q → r ≡ Err q → ComesOut bytes F new free n run c x r
 
 -- the sum with a new result of so many bytes; one that is replaced leaves it first
 abbrev pub new_sum : Way → ℕ → ℕ → ℕ → ℕ
@@ -140,9 +142,9 @@ pub record Sumable (way : Way) (sum read written : ℕ) : Type 0 where
   pub small : sum + written < 4294967296
 
 -- a result that is added: the new sum, or 7
-pub record AddsResult (way : Way) (sum read written f c : ℕ) (r : Piece) : Type 0 where
-  pub fits : new_sum way sum read written ≤ f → r ≡ Took read written (new_sum way sum read written) c
-  pub long : f < new_sum way sum read written → r ≡ Stopped over_long
+pub record AddsResult (way : Way) (sum read written f c : ℕ) (r : Result Piece Refusal) : Type 0 where
+  pub fits : new_sum way sum read written ≤ f → r ≡ piece_of read written (new_sum way sum read written) c
+  pub long : f < new_sum way sum read written → r ≡ Err over_long
 
 -- what a child asks beside results of `sum` bytes, among them the one that is replaced
 pub record ChildReady (k : Child) (way : Way) (mem : Bytes) (sum : ℕ) (t : Task) : Type 0 where
@@ -151,7 +153,7 @@ pub record ChildReady (k : Child) (way : Way) (mem : Bytes) (sum : ℕ) (t : Tas
   pub taken : way ≡ Further → length (tree_bytes k ready.tree) ≤ sum
 
 -- what is answered of it
-abbrev pub WalksChild : Child → Way → Bytes → Bytes → ℕ → Task → Piece → Type 0
+abbrev pub WalksChild : Child → Way → Bytes → Bytes → ℕ → Task → Result Piece Refusal → Type 0
 WalksChild k way old new sum t r =
     Tells (tree_bytes k) (FineTree k t.f t.depth)
     (λ m u. ComesOut (tree_bytes k) t.f new t.free (length (tree_bytes k u)) (child_by t.f k way t.depth m u) t.counter sum r) old new t
@@ -178,7 +180,7 @@ pub record HelpersReady (way : Way) (mem : Bytes) (count sum : ℕ) (t : Task) :
   pub taken : way ≡ Further → length (helpers_bytes ready.tree) ≤ sum
 
 -- what is answered of them
-abbrev pub WalksHelpers : Way → Bytes → Bytes → ℕ → ℕ → Task → Piece → Type 0
+abbrev pub WalksHelpers : Way → Bytes → Bytes → ℕ → ℕ → Task → Result Piece Refusal → Type 0
 WalksHelpers way old new count sum t r =
     Tells helpers_bytes (FineHelpers t.f t.depth count)
     (λ m hs. ComesOut helpers_bytes t.f new t.free (length (helpers_bytes hs)) (helpers_by t.f way t.depth m hs) t.counter sum r) old new t
@@ -248,7 +250,7 @@ pub record RestReady (k : Rest) (way : Way) (mem : Bytes) (sum : ℕ) (t : Task)
   pub taken : way ≡ Further → rest_records k ready.tree ≤ sum
 
 -- what is answered of it
-abbrev pub WalksRest : Rest → Way → Bytes → Bytes → ℕ → Task → Piece → Type 0
+abbrev pub WalksRest : Rest → Way → Bytes → Bytes → ℕ → Task → Result Piece Refusal → Type 0
 WalksRest k way old new sum t r =
     Tells (rest_bytes k) (FineRest k t.f t.depth)
     (λ m u. ComesOut (rest_bytes k) t.f new t.free (length (rest_bytes k u)) (rest_by t.f k way t.depth m u) t.counter sum r) old new t
@@ -264,7 +266,7 @@ pub record BothRestReady (k : Rest) (mem : Bytes) (sum : ℕ) (t : Task) : Type 
   pub held : sum ≤ t.f
 
 -- what is answered of it
-abbrev pub WalksBothRest : Rest → Bytes → Bytes → ℕ → Task → Piece → Type 0
+abbrev pub WalksBothRest : Rest → Bytes → Bytes → ℕ → Task → Result Piece Refusal → Type 0
 WalksBothRest k old new sum t r =
     Tells (rest_bytes k) (FineRest k t.f t.depth)
     (λ m u. ComesOut (rest_bytes k) t.f new t.free (length (rest_bytes k u)) (both_by t.f k t.depth m u) t.counter sum r) old new t
@@ -286,7 +288,7 @@ pub record AfterReady (k : Rest) (way : Way) (mem : Bytes) (at : ℕ) (t : Task)
   pub ready : Ready (by_args way) (headed k (take at mem)) (FineAfter k (take at mem) t.f t.depth) (λ r. room t.f t.depth) (λ r. dbl (t.depth - 1) (rest_atoms k r)) mem t
 
 -- what is answered of it
-abbrev pub WalksAfter : Rest → Way → Bytes → Bytes → ℕ → Task → Step → Type 0
+abbrev pub WalksAfter : Rest → Way → Bytes → Bytes → ℕ → Task → Result Step Refusal → Type 0
 WalksAfter k way old new at t r =
     Tells (headed k (take at old)) (FineAfter k (take at old) t.f t.depth)
     (λ m u.
@@ -316,7 +318,7 @@ pub record RenewedReady (k : Rest) (mem : Bytes) (args : ℕ) (t : Task) : Type 
       (λ p. sexp_atoms p.0 + (dbl (t.depth - 1) (rest_atoms k p.1) + dbl (t.depth - 1) (rest_atoms k p.1))) mem t
 
 -- what is answered of it
-abbrev pub WalksRenewed : Rest → Bytes → Bytes → ℕ → Task → Step → Type 0
+abbrev pub WalksRenewed : Rest → Bytes → Bytes → ℕ → Task → Result Step Refusal → Type 0
 WalksRenewed k old new args t r =
     Tells (with_args k (take args old)) (FineRenewed k (take args old) t.f t.depth)
     (λ m p.

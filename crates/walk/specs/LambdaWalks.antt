@@ -15,6 +15,8 @@ use Rattle.walk.specs.Room.{room}
 use Rattle.walk.specs.Steps.{M, ◌>>=◌, ret, sexp_size, body_size, step, child}
 use Rattle.walk.specs.Walking.{from_sum, IsLambda, Fine, Ready, Tells}
 use Rattle.walk.specs.declared.Task.{Task}
+use Rattle.std.specs.declared.result.Result.{Result}
+use Rattle.names.specs.declared.Refusal.{Refusal}
 
 -- a BF, and its captures as they are made
 pub record Captured : Type 0 where
@@ -56,7 +58,7 @@ CapturedReady mem at args body x t =
     Ready false lambda_bytes (FineCaptured mem at args body x t) (λ k. room t.f t.depth) (λ k. dbl (t.depth - 1) (atoms k.body) + dbl (t.depth - 1) (atoms k.body)) mem t
 
 -- what is answered of it
-abbrev pub WalksCaptured : Bytes → Bytes → ℕ → ℕ → ℕ → ℕ → Task → Step → Type 0
+abbrev pub WalksCaptured : Bytes → Bytes → ℕ → ℕ → ℕ → ℕ → Task → Result Step Refusal → Type 0
 WalksCaptured old new at args body x t r =
     Tells lambda_bytes (FineCaptured old at args body x t)
     (λ m k.

@@ -12,6 +12,8 @@ use Rattle.walk.specs.Arena.{Says, fitting, outcome}
 use Rattle.walk.specs.Bodyforms.{Rules, body_rules, desugar_sequential_let_bindings}
 use Rattle.walk.specs.RenameInCons.{rename_atom}
 use Rattle.walk.specs.declared.Task.{Task}
+use Rattle.std.specs.declared.result.Result.{Result}
+use Rattle.names.specs.declared.Refusal.{Refusal}
 
 -- a BQ
 unfoldable pub IsQuoted : Body → Type 0
@@ -46,11 +48,11 @@ pub record ValidKind (Only : Body → Type 0) (b : Body) : Type 0 where
   pub only : Only b
 
 -- what is answered of a B record that is kept
-abbrev pub KeepsBody : Bytes → Bytes → Task → Step → Type 0
+abbrev pub KeepsBody : Bytes → Bytes → Task → Result Step Refusal → Type 0
 KeepsBody old new t r = Says body_bytes ValidBody body_bytes (λ m b. fitting body_bytes t.f t.counter b) old new t r
 
 -- what In-body answers of a B record of this kind, whatever the rules on the levels below are
-abbrev pub InBody : (Body → Type 0) → Bytes → Bytes → Task → Step → Type 0
+abbrev pub InBody : (Body → Type 0) → Bytes → Bytes → Task → Result Step Refusal → Type 0
 InBody Only old new t r = (q : Rules) → Says body_bytes (ValidKind Only) body_bytes (λ m b. outcome ((body_rules t.f q).in_bodyform m b t.counter 0)) old new t r
 
 -- a mark, and an S record behind it
@@ -65,7 +67,7 @@ pub record ValidWithMark (x : WithMark) : Type 0 where
   pub fields : SexpFields x.1
 
 -- what is answered of a mark and an S record that goes by the map where it is an atom
-abbrev pub RenamesWithMark : Bytes → Bytes → Task → Step → Type 0
+abbrev pub RenamesWithMark : Bytes → Bytes → Task → Result Step Refusal → Type 0
 RenamesWithMark old new t r = Says with_mark_bytes ValidWithMark with_mark_bytes (λ m x. fitting with_mark_bytes t.f t.counter (x.0, rename_atom m x.1)) old new t r
 
 -- a let desugared as a sequential one is; every other B record as it is
@@ -78,7 +80,7 @@ desugared (BM l f) = BM l f
 desugared (BF l w ca c a b) = BF l w ca c a b
 
 -- what is answered of a sequential let
-abbrev pub Desugars : Bytes → Bytes → Task → Step → Type 0
+abbrev pub Desugars : Bytes → Bytes → Task → Result Step Refusal → Type 0
 Desugars old new t r = Says body_bytes (ValidKind (IsLet Sequential)) body_bytes (λ m b. fitting body_bytes t.f t.counter (desugared b)) old new t r
 
 -- the bindings of a let that are left, and its body
@@ -96,7 +98,7 @@ pub record ValidLeft (count : ℕ) (x : Left) : Type 0 where
   pub body : ValidBody x.1
 
 -- what is answered of them
-abbrev pub Nests : ℕ → Bytes → Bytes → Task → Step → Type 0
+abbrev pub Nests : ℕ → Bytes → Bytes → Task → Result Step Refusal → Type 0
 Nests count old new t r =
     Says left_bytes (ValidLeft count) body_bytes (λ m x. fitting body_bytes t.f t.counter (desugar_sequential_let_bindings x.0 x.1)) old new t r
 

@@ -19,6 +19,8 @@ use Rattle.walk.specs.Steps.{M, ◌>>=◌, ret, body_size, step}
 use Rattle.walk.specs.Walking.{rule, AnyBody, Fine, Leads, let_aside}
 use Rattle.walk.specs.declared.Piece.{Piece}
 use Rattle.walk.specs.declared.Task.{Task}
+use Rattle.std.specs.declared.result.Result.{Result}
+use Rattle.names.specs.declared.Refusal.{Refusal}
 
 -- the bytes of a binding up to its body
 unfoldable pub head_bytes : Binding → Bytes
@@ -92,12 +94,12 @@ pub record BindReady (mem : Bytes) (at aside : ℕ) (t : Task) (owning : Bool) :
   pub longest : t.f ≤ most_longest
 
 -- its result stands at free from that place on
-pub record BodyBound (old new : Bytes) (at aside : ℕ) (t : Task) (owning : Bool) (p : BindReady old at aside t owning) (r : Step) : Type 0 where
+pub record BodyBound (old new : Bytes) (at aside : ℕ) (t : Task) (owning : Bool) (p : BindReady old at aside t owning) (r : Result Step Refusal) : Type 0 where
   pub frame : SameOutside old new (at + t.free) p.top
   pub gives : Gives body_bytes new (at + t.free) (length (body_bytes p.tree)) (outcome (rule t.f owning t.depth p.m p.tree t.counter 0)) r
 
 -- what is answered of it
-abbrev pub Binds : Bytes → Bytes → ℕ → ℕ → Task → Bool → Step → Type 0
+abbrev pub Binds : Bytes → Bytes → ℕ → ℕ → Task → Bool → Result Step Refusal → Type 0
 Binds old new at aside t owning r = (p : BindReady old at aside t owning) → BodyBound old new at aside t owning p r
 
 -- the patterns that bindings get: those that stand aside, or their own
@@ -132,13 +134,13 @@ pub record MadeBindings (count held head F : ℕ) (us : List Binding) : Type 0 w
   pub long : length (joined binding_bytes us) + held ≤ head + F
 
 -- their results from free on
-pub record AllBound (old new : Bytes) (count aside held : ℕ) (t : Task) (owning : Bool) (p : AllReady old count aside held t owning) (r : Piece) : Type 0 where
+pub record AllBound (old new : Bytes) (count aside held : ℕ) (t : Task) (owning : Bool) (p : AllReady old count aside held t owning) (r : Result Piece Refusal) : Type 0 where
   pub frame : SameOutside old new t.free p.top
   pub leads : Leads (joined binding_bytes) (MadeBindings count held (heads p.ps p.bs) t.f) t.f new t.free (length (joined binding_bytes p.bs))
       (each_binding_body t.f (rule t.f owning t.depth p.m) (with_patterns p.ps p.bs)) t.counter held r
 
 -- what is answered of them
-abbrev pub BindsAll : Bytes → Bytes → ℕ → ℕ → ℕ → Task → Bool → Piece → Type 0
+abbrev pub BindsAll : Bytes → Bytes → ℕ → ℕ → ℕ → Task → Bool → Result Piece Refusal → Type 0
 BindsAll old new count aside held t owning r = (p : AllReady old count aside held t owning) → AllBound old new count aside held t owning p r
 
 -- what is left of Own of a parallel let when its patterns are drawn
@@ -173,11 +175,11 @@ pub record PatternedReady (mem : Bytes) (first count aside sum : ℕ) (t : Task)
   pub longest : t.f ≤ most_longest
 
 -- its result at free, of every run that has come so far
-pub record Patterned (old new : Bytes) (first count aside sum : ℕ) (t : Task) (p : PatternedReady old first count aside sum t) (r : Step) : Type 0 where
+pub record Patterned (old new : Bytes) (first count aside sum : ℕ) (t : Task) (p : PatternedReady old first count aside sum t) (r : Result Step Refusal) : Type 0 where
   pub frame : SameOutside old new t.free (length old)
   pub gives : (run : M Body) (c : ℕ) → outcome (run c 0) ≡ outcome (patterned_run t.f (t.depth - 1) p.l p.k p.h (with_patterns p.ps (list_of p.bs)) p.m p.b t.counter sum)
       → Gives body_bytes new t.free (length (body_bytes (BL Parallel p.l p.k p.h p.bs p.b))) (outcome (step t.f body_size run c 0)) r
 
 -- what is answered of it
-abbrev pub WalksPatterned : Bytes → Bytes → ℕ → ℕ → ℕ → ℕ → Task → Step → Type 0
+abbrev pub WalksPatterned : Bytes → Bytes → ℕ → ℕ → ℕ → ℕ → Task → Result Step Refusal → Type 0
 WalksPatterned old new first count aside sum t r = (p : PatternedReady old first count aside sum t) → Patterned old new first count aside sum t p r

@@ -2,6 +2,7 @@ pub mod RenameInCons
 pub mod Steps
 pub mod Sums
 pub mod Invent
+pub mod RuleAnswers
 pub mod Arena
 pub mod DrawnMaps
 pub mod Plans

@@ -11,7 +11,6 @@ use Rattle.records.specs.Limits.{cons_limit}
 use Rattle.records.specs.Records.{Sexp, sexp_bytes, Pattern, Name, Complex, pattern_field, Body}
 use Rattle.records.specs.Valid.{ValidName, ValidSexp, ValidPattern}
 use Rattle.records.specs.declared.Step.{Step}
-use Rattle.records.specs.declared.Step.TheVariants.{Done as Written, Refused as Unwritten}
 use Rattle.walk.specs.Arena.{MapAt, Substitutes, outcome}
 use Rattle.walk.specs.Draws.{pattern_atoms}
 use Rattle.walk.specs.Invent.{invent_new_names_sexp}
@@ -20,22 +19,24 @@ use Rattle.walk.specs.Patterns.{make_binding_unique}
 use Rattle.walk.specs.RenameInCons.{rename_in_cons}
 use Rattle.walk.specs.Steps.{M, ◌>>=◌, over_long}
 use Rattle.walk.specs.declared.Drawn.{Drawn}
-use Rattle.walk.specs.declared.Drawn.TheVariants.{Done, Refused}
 use Rattle.walk.specs.declared.Growth.{Growth}
 use Rattle.walk.specs.declared.Task.{Task}
+use Rattle.std.specs.declared.result.Result.{Result}
+use Rattle.std.specs.declared.result.Result.TheVariants.{Ok, Err}
+use Rattle.walk.specs.RuleAnswers.{drawn_of}
 
 -- what a step has to do by names that were drawn so far
 abbrev pub names_task : ℕ → ℕ → Growth → Task
 names_task free f g = record { free = free; map = g.len; f = f; depth = cons_limit; counter = g.counter }
 
 -- a step's answer, beside a map of so many bytes
-abbrev pub beside : ℕ → Step → Drawn
-beside len (Written r w c) = Done r w len c
-beside len (Unwritten q) = Refused q
+abbrev pub beside : ℕ → Result Step Refusal → Result Drawn Refusal
+beside len (Ok s) = drawn_of s.read s.written len s.counter
+beside len (Err q) = Err q
 
 -- an S record by the names that were drawn for it: what Substitute answers
-abbrev pub PutsNames : Bytes → Bytes → ℕ → Bool → ℕ → Growth → Drawn → Type 0
-PutsNames old new free qq f g r = (o : Step) × Substitutes (rename_in_cons qq) old new (names_task free f g) o × (r ≡ beside g.len o)
+abbrev pub PutsNames : Bytes → Bytes → ℕ → Bool → ℕ → Growth → Result Drawn Refusal → Type 0
+PutsNames old new free qq f g r = (o : Result Step Refusal) × Substitutes (rename_in_cons qq) old new (names_task free f g) o × (r ≡ beside g.len o)
 
 -- an S record stands at the start of memory, below free, and there is room for f bytes and for all that it can draw from the counter c on
 pub record ArgsReady (mem : Bytes) (free f c : ℕ) : Type 0 where
@@ -47,16 +48,16 @@ pub record ArgsReady (mem : Bytes) (free f c : ℕ) : Type 0 where
   pub counts : c + length (sexp_bytes s) < counter_limit
 
 -- args that are drawn for: the map that Invent gives from none, and what Substitute by it writes, at most f bytes; or it is longer; or Invent refuses
-pub data ArgsDrawn (qq : Bool) (s : Sexp) (new : Bytes) (free f c : ℕ) (r : Drawn) : Type 0 where
+pub data ArgsDrawn (qq : Bool) (s : Sexp) (new : Bytes) (free f c : ℕ) (r : Result Drawn Refusal) : Type 0 where
   args_drew : (m : NameMap) (len c' : ℕ) → outcome (invent_new_names_sexp [] s c 0) ≡ gives m c' → MapAt new len m → len ≤ map_growth * length (sexp_bytes s)
       → length (sexp_bytes (rename_in_cons qq m s)) ≤ f → At new free (sexp_bytes (rename_in_cons qq m s))
-      → r ≡ Done (length (sexp_bytes s)) (length (sexp_bytes (rename_in_cons qq m s))) len c' → ArgsDrawn qq s new free f c r
-  args_long : (m : NameMap) (c' : ℕ) → outcome (invent_new_names_sexp [] s c 0) ≡ gives m c' → f < length (sexp_bytes (rename_in_cons qq m s)) → r ≡ Refused over_long
+      → r ≡ drawn_of (length (sexp_bytes s)) (length (sexp_bytes (rename_in_cons qq m s))) len c' → ArgsDrawn qq s new free f c r
+  args_long : (m : NameMap) (c' : ℕ) → outcome (invent_new_names_sexp [] s c 0) ≡ gives m c' → f < length (sexp_bytes (rename_in_cons qq m s)) → r ≡ Err over_long
       → ArgsDrawn qq s new free f c r
-  args_refused : (q : Refusal) → outcome (invent_new_names_sexp [] s c 0) ≡ refuses q → r ≡ Refused q → ArgsDrawn qq s new free f c r
+  args_refused : (q : Refusal) → outcome (invent_new_names_sexp [] s c 0) ≡ refuses q → r ≡ Err q → ArgsDrawn qq s new free f c r
 
 -- what is answered of it
-pub record DrawsArgs (old new : Bytes) (free : ℕ) (qq : Bool) (f c : ℕ) (r : Drawn) : Type 0 where
+pub record DrawsArgs (old new : Bytes) (free : ℕ) (qq : Bool) (f c : ℕ) (r : Result Drawn Refusal) : Type 0 where
   pub frame : SameOutside old new free (length old)
   pub says : (s : Sexp) → ValidSexp s → At old 0 (sexp_bytes s) → ArgsDrawn qq s new free f c r
 
@@ -117,18 +118,18 @@ pub record PatternGrows (f c : ℕ) (p u : Pattern) (len d : ℕ) : Type 0 where
   pub drawn : d ≤ c + pattern_atoms p
 
 -- a pattern that is drawn for, where f bytes are left of F: whatever follows goes on from the counter and the sum then; or a refusal, whatever follows
-pub data PatternDrawn (p : Pattern) (new : Bytes) (free f c : ℕ) (r : Drawn) : Type 0 where
+pub data PatternDrawn (p : Pattern) (new : Bytes) (free f c : ℕ) (r : Result Drawn Refusal) : Type 0 where
   drew : (m : NameMap) (u : Pattern) (len d : ℕ) → PatternGrows f c p u len d
       → ((F x : ℕ) → x + f ≡ F → (k : NameMap × Pattern → M Body) → outcome ((make_binding_unique F p >>= k) c x) ≡ outcome (k (m, u) d (x + pattern_sum u)))
-      → MapAt new len m → At new free (pattern_field u) → r ≡ Done (length (pattern_field p)) (length (pattern_field u)) len d → PatternDrawn p new free f c r
-  stopped : (q : Refusal) → ((F x : ℕ) → x + f ≡ F → (k : NameMap × Pattern → M Body) → outcome ((make_binding_unique F p >>= k) c x) ≡ refuses q) → r ≡ Refused q
+      → MapAt new len m → At new free (pattern_field u) → r ≡ drawn_of (length (pattern_field p)) (length (pattern_field u)) len d → PatternDrawn p new free f c r
+  stopped : (q : Refusal) → ((F x : ℕ) → x + f ≡ F → (k : NameMap × Pattern → M Body) → outcome ((make_binding_unique F p >>= k) c x) ≡ refuses q) → r ≡ Err q
       → PatternDrawn p new free f c r
 
 -- what is answered of it
-pub record DrawsPattern (old new : Bytes) (free f c : ℕ) (r : Drawn) : Type 0 where
+pub record DrawsPattern (old new : Bytes) (free f c : ℕ) (r : Result Drawn Refusal) : Type 0 where
   pub frame : SameOutside old new free (length old)
   pub says : (p : Pattern) → ValidPattern p → At old 0 (pattern_field p) → PatternDrawn p new free f c r
 
 -- of a Name, whatever is left
-abbrev pub DrawsName : Bytes → Bytes → ℕ → ℕ → Drawn → Type 0
+abbrev pub DrawsName : Bytes → Bytes → ℕ → ℕ → Result Drawn Refusal → Type 0
 DrawsName old new free c r = (f : ℕ) → DrawsPattern old new free f c r

@@ -1,6 +1,6 @@
 -- How an S record is substituted: what each plan of `plan_of` says of the record at the start.
 -- Assumes nothing.
-use Rattle.std.specs.Prelude.{Bool, true, false, ◌≡◌, ℕ, ◌+◌, ◌≤◌, ◌<◌, length}
+use Rattle.std.specs.Prelude.{Bool, true, false, ◌≡◌, ℕ, ◌+◌, ◌≤◌, ◌<◌, length, Option, Some, None, IfSome}
 use Rattle.std.proofs.Math.Option.{none}
 use Prim.Native.String.{String}
 use Rattle.names.specs.Maps.{NameMap}
@@ -65,13 +65,13 @@ pub record Plans (rule : NameMap → Sexp → Sexp) (s : Bytes) (p : Plan) : Typ
 pub record PairAtStart (rule : NameMap → Sexp → Sexp) (s : Bytes) : Type 0 where
   pub goes : (t : Sexp) → SexpFields t → At s 0 (sexp_bytes t) → GoesByParts rule t
 
--- a record t that is a proper list of one element, which stands at r behind its mark; or is none, and r is 0
-pub data OnlyAt (t : Sexp) (r : ℕ) : Type 0 where
-  only_none : r ≡ 0 → only t ≡ none → OnlyAt t r
-  only_one : (l : Loc) (x z : Sexp) → t ≡ SC l x z → nilp z ≡ true → r ≡ head_width → OnlyAt t r
+-- a record t that is a proper list of one element, which stands at r behind its mark; or is none
+pub data OnlyAt (t : Sexp) (r : Option ℕ) : Type 0 where
+  only_none : r ≡ None → only t ≡ none → OnlyAt t r
+  only_one : (l : Loc) (x z : Sexp) → t ≡ SC l x z → nilp z ≡ true → r ≡ Some head_width → OnlyAt t r
 
-pub record SeesOnly (s : Bytes) (r : ℕ) : Type 0 where
-  pub within : r ≤ length s
+pub record SeesOnly (s : Bytes) (r : Option ℕ) : Type 0 where
+  pub within : IfSome r (λ at. at ≤ length s)
   pub onlys : (t : Sexp) → SexpFields t → At s 0 (sexp_bytes t) → OnlyAt t r
 
 -- the head of an SC at the start stands at n
@@ -79,12 +79,12 @@ pub record HeadAt (s : Bytes) (n : ℕ) : Type 0 where
   pub within : n ≤ length s
   pub is : (l : Loc) (h u : Sexp) → SexpFields (SC l h u) → At s 0 (sexp_bytes (SC l h u)) → n ≡ head_width
 
--- a tail u that is a proper list of one element, which stands at r behind the head h; or is none, and r is 0
-pub data OnlyOfTailAt (h u : Sexp) (r : ℕ) : Type 0 where
-  single_none : r ≡ 0 → only u ≡ none → OnlyOfTailAt h u r
-  single_one : (l : Loc) (x z : Sexp) → u ≡ SC l x z → nilp z ≡ true → r ≡ head_width + length (sexp_bytes h) + head_width → OnlyOfTailAt h u r
+-- a tail u that is a proper list of one element, which stands at r behind the head h; or is none
+pub data OnlyOfTailAt (h u : Sexp) (r : Option ℕ) : Type 0 where
+  single_none : r ≡ None → only u ≡ none → OnlyOfTailAt h u r
+  single_one : (l : Loc) (x z : Sexp) → u ≡ SC l x z → nilp z ≡ true → r ≡ Some (head_width + length (sexp_bytes h) + head_width) → OnlyOfTailAt h u r
 
-pub record SeesOnlyOfTail (s : Bytes) (r : ℕ) : Type 0 where
+pub record SeesOnlyOfTail (s : Bytes) (r : Option ℕ) : Type 0 where
   pub singles : (l : Loc) (h u : Sexp) → SexpFields (SC l h u) → At s 0 (sexp_bytes (SC l h u)) → OnlyOfTailAt h u r
 
 -- p is the plan for an SC at the start

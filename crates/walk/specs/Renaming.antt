@@ -1,12 +1,11 @@
 -- What the code of the calls Whole form, Children only and Single helper shares: which record each call reads, by which walk, and what its pieces ask and answer.
 -- Assumes nothing.
-use Rattle.std.specs.Prelude.{true, ℕ, ◌≤◌, length, take}
-use Rattle.names.specs.CallAnswer.{Result, refused_answer, delivered}
+use Rattle.std.specs.Prelude.{true, ℕ, length}
+use Rattle.names.specs.CallAnswer.{CallResult}
 use Rattle.names.specs.Names.{Bytes}
 use Rattle.records.specs.StepAnswer.{Gives}
 use Rattle.records.specs.Limits.{level_limit}
 use Rattle.records.specs.declared.Step.{Step}
-use Rattle.records.specs.declared.Step.TheVariants.{Done, Refused}
 use Rattle.records.specs.declared.Wanted.{Wanted}
 use Rattle.records.specs.declared.Wanted.TheVariants.{Form as a_form, Helper as a_helper}
 use Rattle.walk.specs.Arena.{outcome}
@@ -20,9 +19,11 @@ use Rattle.walk.specs.declared.Request.TheVariants.{WholeForm, ChildrenOnly, Sin
 use Rattle.walk.specs.declared.Child.{Child}
 use Rattle.walk.specs.declared.Child.TheVariants.{Helperform, Compileform}
 use Rattle.walk.specs.declared.Task.{Task}
+use Rattle.std.specs.declared.result.Result.{Result}
+use Rattle.names.specs.declared.Refusal.{Refusal}
 
 -- what a call answers
-abbrev pub call_by : Request → ℕ → ℕ → ℕ → Bytes → Bytes → Result
+abbrev pub call_by : Request → ℕ → ℕ → ℕ → Bytes → Bytes → CallResult
 call_by WholeForm = whole_call
 call_by ChildrenOnly = children_call
 call_by SingleHelper = helper_call
@@ -54,17 +55,7 @@ abbrev pub CallReady : Request → Bytes → Task → Type 0
 CallReady k mem t = TreeReady (read_by k) true mem t
 
 -- what is answered of it: the outcome of the walk, with the result at free
-abbrev pub WalksCall : Request → Bytes → Bytes → Task → Step → Type 0
+abbrev pub WalksCall : Request → Bytes → Bytes → Task → Result Step Refusal → Type 0
 WalksCall k old new t r =
     Tells (tree_bytes (read_by k)) (FineTree (read_by k) t.f t.depth)
     (λ m u. Gives (tree_bytes (read_by k)) new t.free (length (tree_bytes (read_by k) u)) (outcome (walk_by k t.f u t.counter 0)) r) old new t
-
--- the result of a step stands within so many bytes
-abbrev pub MadeWithin : Step → ℕ → Type 0
-MadeWithin (Done n w c) len = w ≤ len
-MadeWithin (Refused r) len = Unit {0}
-
--- the answer to a step that started from the counter c, and whose result stands at the start of `made`
-abbrev pub step_answer : ℕ → Bytes → Bytes → Step → Result
-step_answer c made buffer (Done n w c') = delivered c buffer (take w made) c'
-step_answer c made buffer (Refused r) = refused_answer c buffer r

@@ -17,9 +17,11 @@ use Rattle.walk.specs.Draws.{patterns_of, counter_most}
 use Rattle.walk.specs.Patterns.{make_bindings_unique}
 use Rattle.walk.specs.Steps.{M, ◌>>=◌}
 use Rattle.walk.specs.Walking.{let_aside}
-use Rattle.walk.specs.declared.Drawn.{Drawn}
-use Rattle.walk.specs.declared.Drawn.TheVariants.{Done, Refused}
+use Rattle.walk.specs.declared.Made.{Made}
 use Rattle.walk.specs.declared.Task.{Task}
+use Rattle.std.specs.declared.result.Result.{Result}
+use Rattle.std.specs.declared.result.Result.TheVariants.{Err}
+use Rattle.walk.specs.RuleAnswers.{made_with}
 
 -- bindings with other patterns
 unfoldable pub with_pattern : Pattern → Binding → Binding
@@ -50,15 +52,15 @@ pub record PatternsReady (mem : Bytes) (first count aside : ℕ) (t : Task) : Ty
 
 -- the patterns of bindings, drawn from the counter c on: they and their map stand within the room for them; whatever follows goes on from the counter and the
 -- sum then; or a refusal
-pub data PatternsDrawn (F : ℕ) (bs : List Binding) (new : Bytes) (aside count c : ℕ) (r : Drawn) : Type 0 where
+pub data PatternsDrawn (F : ℕ) (bs : List Binding) (new : Bytes) (aside count c : ℕ) (r : Result Made Refusal) : Type 0 where
   drew : (m : NameMap) (ps : List Pattern) (len c' x : ℕ) → length ps ≡ length bs → Each ValidPattern ps
       → ((k : NameMap × List Binding → M Body) → outcome ((make_bindings_unique F [] bs >>= k) c 0) ≡ outcome (k (m, with_patterns ps bs) c' x))
-      → r ≡ Done (length (joined pattern_field ps)) x len c' → MapAt new len m → At new aside (joined pattern_field ps)
+      → r ≡ made_with (length (joined pattern_field ps)) x len c' → MapAt new len m → At new aside (joined pattern_field ps)
       → x ≤ F → length (joined pattern_field ps) ≤ x + length (joined binding_bytes bs) → length (joined pattern_field ps) + len ≤ let_aside F count → c' ≤ c + patterns_of bs
       → PatternsDrawn F bs new aside count c r
-  stopped : (q : Refusal) → ((k : NameMap × List Binding → M Body) → outcome ((make_bindings_unique F [] bs >>= k) c 0) ≡ refuses q) → r ≡ Refused q → PatternsDrawn F bs new aside count c r
+  stopped : (q : Refusal) → ((k : NameMap × List Binding → M Body) → outcome ((make_bindings_unique F [] bs >>= k) c 0) ≡ refuses q) → r ≡ Err q → PatternsDrawn F bs new aside count c r
 
 -- what is answered
-pub record DrawsPatterns (old new : Bytes) (first count aside : ℕ) (t : Task) (r : Drawn) : Type 0 where
+pub record DrawsPatterns (old new : Bytes) (first count aside : ℕ) (t : Task) (r : Result Made Refusal) : Type 0 where
   pub frame : SameOutside old new aside (length old)
   pub says : (bs : List Binding) → LetBindings old first count aside t.f bs → PatternsDrawn t.f bs new aside count t.counter r

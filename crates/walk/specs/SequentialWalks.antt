@@ -11,6 +11,8 @@ use Rattle.walk.specs.Leaves.{Left}
 use Rattle.walk.specs.Room.{room}
 use Rattle.walk.specs.Walking.{AnyBody, Fine, Ready, Tells}
 use Rattle.walk.specs.declared.Task.{Task}
+use Rattle.std.specs.declared.result.Result.{Result}
+use Rattle.names.specs.declared.Refusal.{Refusal}
 
 -- the bindings and the body of a sequential let as nested lets
 abbrev pub nested : Left → Body
@@ -36,7 +38,7 @@ NestedReady mem count t =
     Ready true nested_bytes (FineNested count t.f t.depth) (λ x. 7 * t.f + room t.f (t.depth - 1)) (λ x. dbl t.depth (atoms (nested x))) mem t
 
 -- what is answered of it
-abbrev pub WalksNested : Bytes → Bytes → ℕ → Task → Step → Type 0
+abbrev pub WalksNested : Bytes → Bytes → ℕ → Task → Result Step Refusal → Type 0
 WalksNested old new count t r =
     Tells nested_bytes (FineNested count t.f t.depth)
     (λ m x. Gives body_bytes new t.free (length (nested_bytes x)) (outcome (rename_args_desugared t.f (walk t.f (t.depth - 1)) x.0 x.1 t.counter 0)) r) old new t

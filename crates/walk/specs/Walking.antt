@@ -12,7 +12,6 @@ use Rattle.records.specs.Limits.{most_longest}
 use Rattle.records.specs.Records.{Parallel, Body, BL, BQ, BV, BC, BM, BF, body_bytes, bindings_count}
 use Rattle.records.specs.Valid.{ValidBody, NoMod, IsLet}
 use Rattle.records.specs.declared.Step.{Step}
-use Rattle.records.specs.declared.Step.TheVariants.{Done, Refused}
 use Rattle.records.specs.declared.Zone.{Zone}
 use Rattle.walk.specs.Arena.{MapAt, outcome}
 use Rattle.walk.specs.Bodyforms.{args_then_in, walk}
@@ -20,8 +19,11 @@ use Rattle.walk.specs.Draws.{atoms, dbl, counter_most}
 use Rattle.walk.specs.Room.{room}
 use Rattle.walk.specs.Steps.{M, ◌>>=◌, over_long, body_size, further}
 use Rattle.walk.specs.declared.Piece.{Piece}
-use Rattle.walk.specs.declared.Piece.TheVariants.{Done as Took, Refused as Stopped}
 use Rattle.walk.specs.declared.Task.{Task}
+use Rattle.std.specs.declared.result.Result.{Result}
+use Rattle.std.specs.declared.result.Result.TheVariants.{Err}
+use Rattle.walk.specs.RuleAnswers.{piece_of}
+use Rattle.records.specs.StepAnswer.{step_of}
 
 -- Own or In-body, on records of at most d levels
 abbrev pub rule : ℕ → Bool → ℕ → NameMap → Body → M Body
@@ -95,7 +97,7 @@ abbrev pub BodyReady : (Body → Type 0) → Bool → Bytes → Task → Type 0
 BodyReady Only owning mem t = Ready owning body_bytes (Fine Only t.f t.depth) (λ b. room t.f t.depth) (λ b. dbl t.depth (atoms b)) mem t
 
 -- what is answered of it: the outcome of the rule, with the result at free
-abbrev pub Walks : (Body → Type 0) → Bool → Bytes → Bytes → Task → Step → Type 0
+abbrev pub Walks : (Body → Type 0) → Bool → Bytes → Bytes → Task → Result Step Refusal → Type 0
 Walks Only owning old new t r =
     Tells body_bytes (Fine Only t.f t.depth)
     (λ m b. Gives body_bytes new t.free (length (body_bytes b)) (outcome (rule t.f owning t.depth m b t.counter 0)) r) old new t
@@ -126,10 +128,10 @@ ParallelReady mem t = Ready true body_bytes (Fine (IsLet Parallel) t.f t.depth) 
 
 -- What a piece of a rule answers that runs from the counter c and the sum x, after n bytes were read: its tree at free, and the counter and the sum from which
 -- whatever follows it goes on; or a refusal, whatever follows.
-pub data Leads {A : Type 0} (f : A → Bytes) (Has : A → Type 0) (F : ℕ) (new : Bytes) (free n : ℕ) (run : M A) (c x : ℕ) (r : Piece) : Type 0 where
-  led : (u : A) (c' x' : ℕ) → Has u → x' ≤ F → ((k : A → M Body) → outcome ((run >>= k) c x) ≡ outcome (k u c' x')) → r ≡ Took n (length (f u)) x' c' → At new free (f u)
+pub data Leads {A : Type 0} (f : A → Bytes) (Has : A → Type 0) (F : ℕ) (new : Bytes) (free n : ℕ) (run : M A) (c x : ℕ) (r : Result Piece Refusal) : Type 0 where
+  led : (u : A) (c' x' : ℕ) → Has u → x' ≤ F → ((k : A → M Body) → outcome ((run >>= k) c x) ≡ outcome (k u c' x')) → r ≡ piece_of n (length (f u)) x' c' → At new free (f u)
       → Leads f Has F new free n run c x r
-  stopped : (q : Refusal) → ((k : A → M Body) → outcome ((run >>= k) c x) ≡ refuses q) → r ≡ Stopped q → Leads f Has F new free n run c x r
+  stopped : (q : Refusal) → ((k : A → M Body) → outcome ((run >>= k) c x) ≡ refuses q) → r ≡ Err q → Leads f Has F new free n run c x r
 
 -- Own and then In-body of a body, beside results of `sum` bytes: a result's room more than one of them needs
 pub record BothReady (mem : Bytes) (sum : ℕ) (t : Task) : Type 0 where
@@ -137,7 +139,7 @@ pub record BothReady (mem : Bytes) (sum : ℕ) (t : Task) : Type 0 where
   pub held : sum ≤ t.f
 
 -- what is answered of it
-abbrev pub WalksBoth : Bytes → Bytes → ℕ → Task → Piece → Type 0
+abbrev pub WalksBoth : Bytes → Bytes → ℕ → Task → Result Piece Refusal → Type 0
 WalksBoth old new sum t r =
     Tells body_bytes (Fine AnyBody t.f t.depth)
     (λ m b. Leads body_bytes AnyBody t.f new t.free (length (body_bytes b)) (args_then_in t.f (walk t.f t.depth) m b) t.counter sum r) old new t
@@ -156,12 +158,12 @@ pub record OverReady (mem : Bytes) (w sum : ℕ) (t : Task) : Type 0 where
   pub longest : t.f ≤ most_longest
 
 -- what is answered of it
-pub record GoesOver (old new : Bytes) (read w sum : ℕ) (t : Task) (r : Piece) : Type 0 where
+pub record GoesOver (old new : Bytes) (read w sum : ℕ) (t : Task) (r : Result Piece Refusal) : Type 0 where
   pub frame : SameOutside old new t.free (length old - t.map)
   pub says : (m : NameMap) → MapAt old t.map m → (u : Body) → At old t.free (body_bytes u) → w ≡ length (body_bytes u) → Fine AnyBody t.f t.depth u
       → Leads body_bytes AnyBody t.f new t.free read (further t.f body_size u (rule t.f false t.depth m)) t.counter (sum + w) r
 
 -- a finished record
-pub record Finishes (read written f c : ℕ) (r : Step) : Type 0 where
-  pub fits : written ≤ f → r ≡ Done read written c
-  pub long : f < written → r ≡ Refused over_long
+pub record Finishes (read written f c : ℕ) (r : Result Step Refusal) : Type 0 where
+  pub fits : written ≤ f → r ≡ step_of read written c
+  pub long : f < written → r ≡ Err over_long

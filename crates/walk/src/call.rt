@@ -1,18 +1,19 @@
 // The calls Whole form, Children only and Single helper: the record is copied into work memory and
 // renamed there, and the result is written to the result buffer.
-ghost use Rattle.std.specs.Prelude.{◌≡◌, length};
+ghost use Rattle.std.specs.Prelude.{◌≡◌, ◌≤◌, length, take};
+ghost use Rattle.names.specs.CallAnswer.{delivered};
 ghost use Rattle.walk.specs.Assigns.{AssignsOrdered};
 ghost use Rattle.walk.specs.Calls.{whole_call, children_call, helper_call, whole_visits, children_visits, helper_visits};
-ghost use Rattle.walk.specs.Renaming.{call_by, wanted_by, call_task, CallReady, WalksCall, MadeWithin, step_answer};
+ghost use Rattle.walk.specs.Renaming.{call_by, wanted_by, call_task, CallReady, WalksCall};
 
 use crate::forms::{args_compileform, args_helperform, children_compileform};
 use crate::{Request, Task};
-use names::Answer;
 use names::bytes::put;
 use names::call::{accepted, refused};
 use names::refusals::placeless;
+use names::{Answer, Refusal};
 use records::input::open_input;
-use records::{LEVEL_LIMIT, Opening, Step, Wanted};
+use records::{LEVEL_LIMIT, Step, Wanted};
 
 // Renames a CF (`rename_args_compileform`).
 pub fn whole_form(f: usize, work: &mut [u8], counter: u64, input: &[u8], res: &mut [u8]) -> Answer
@@ -62,12 +63,14 @@ fn rename(
     ensures { (result, res.new) ≡ call_by call f (length work.old) counter input.now res.old }
 {
     match open_input(wanted(call), f, work.len(), counter, input) {
-        Opening::Refused(r) => refused(r, counter),
-        Opening::Accepted => {
+        Err(r) => refused(r, counter),
+        Ok(()) => {
             let n = input.len();
             put(work, 0, input);
-            let step = walk(call, f, work, n, counter);
-            delivered(step, counter, &work[n..], res)
+            match walk(call, f, work, n, counter) {
+                Err(r) => refused(r, counter),
+                Ok(s) => delivered(s, counter, &work[n..], res),
+            }
         }
     }
 }
@@ -84,7 +87,13 @@ fn wanted(call: Request) -> Wanted
 }
 
 // The walk of a call on the record at the start of work memory; its result goes to `free`.
-fn walk(call: Request, f: usize, work: &mut [u8], free: usize, counter: u64) -> Step
+fn walk(
+    call: Request,
+    f: usize,
+    work: &mut [u8],
+    free: usize,
+    counter: u64,
+) -> Result<Step, Refusal>
     requires { CallReady call work.old (call_task free f counter) }
     ensures { WalksCall call work.old work.new (call_task free f counter) result }
 {
@@ -102,19 +111,16 @@ fn walk(call: Request, f: usize, work: &mut [u8], free: usize, counter: u64) -> 
     }
 }
 
-// The answer to a walk that started from the counter, and whose result stands at the start of `made`.
-fn delivered(step: Step, counter: u64, made: &[u8], res: &mut [u8]) -> Answer
-    requires { MadeWithin step (length made.now) }
-    ensures { (result, res.new) ≡ step_answer counter made.now res.old step }
+// The answer to a walk that is done, and whose result stands at the start of `made`; the counter is
+// the one that it started from.
+fn delivered(s: Step, counter: u64, made: &[u8], res: &mut [u8]) -> Answer
+    requires { s.written ≤ length made.now }
+    ensures { (result, res.new) ≡ delivered counter res.old (take s.written made.now) s.counter }
 {
-    match step {
-        Step::Refused(r) => refused(r, counter),
-        Step::Done(_, len, c) => {
-            if res.len() < len {
-                return refused(placeless(8), counter);
-            }
-            put(res, 0, &made[..len]);
-            accepted(c, 0, len)
-        }
+    let len = s.written;
+    if res.len() < len {
+        return refused(placeless(8), counter);
     }
+    put(res, 0, &made[..len]);
+    accepted(s.counter, 0, len)
 }

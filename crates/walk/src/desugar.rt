@@ -9,6 +9,7 @@ ghost use Rattle.walk.specs.Leaves.{Desugars, Nests, ValidKind, ValidLeft, left_
 use crate::Task;
 use crate::keep::over_long;
 use crate::leaves::keep_body;
+use names::Refusal;
 use names::bytes::{copy, put};
 use records::bodies::let_view;
 use records::skip::skip;
@@ -31,7 +32,7 @@ fn put_let(mem: &mut [u8], free: usize, n: usize)
 }
 
 // Writes the let of each binding that is left around the body behind them.
-fn nested(mem: &mut [u8], task: Task, left: u8) -> Step
+fn nested(mem: &mut [u8], task: Task, left: u8) -> Result<Step, Refusal>
     requires { Asks left_bytes (ValidLeft left) mem.old task }
     ensures { Nests left mem.old mem.new task result }
 {
@@ -41,45 +42,34 @@ fn nested(mem: &mut [u8], task: Task, left: u8) -> Step
     let n = skip(Family::Binding, mem);
     let head = LET_HEAD + n;
     if task.f < head {
-        return over_long();
+        return Err(over_long());
     }
     put_let(mem, task.free, n);
-    match nested(
-        &mut mem[n..],
-        Task {
-            free: task.free + LET_HEAD,
-            map: task.map,
-            f: task.f - head,
-            depth: task.depth,
-            counter: task.counter,
-        },
-        left - 1,
-    ) {
-        Step::Refused(refusal) => Step::Refused(refusal),
-        Step::Done(r, w, c) => Step::Done(n + r, head + w, c),
-    }
+    let inner = Task {
+        free: task.free + LET_HEAD,
+        f: task.f - head,
+        ..task
+    };
+    let s = nested(&mut mem[n..], inner, left - 1)?;
+    Ok(Step {
+        read: n + s.read,
+        written: head + s.written,
+        counter: s.counter,
+    })
 }
 
 // Desugars the sequential let at the start of mem.
-pub fn desugar_sequential_let_bindings(mem: &mut [u8], task: Task) -> Step
+pub fn desugar_sequential_let_bindings(mem: &mut [u8], task: Task) -> Result<Step, Refusal>
     requires { Asks body_bytes (ValidKind (IsLet Sequential)) mem.old task }
     ensures { Desugars mem.old mem.new task result }
 {
     let v = let_view(mem);
     let count = v.count;
     let first = v.first;
-    match nested(
-        &mut mem[first..],
-        Task {
-            free: task.free - first,
-            map: task.map,
-            f: task.f,
-            depth: task.depth,
-            counter: task.counter,
-        },
-        count,
-    ) {
-        Step::Refused(refusal) => Step::Refused(refusal),
-        Step::Done(r, w, c) => Step::Done(first + r, w, c),
-    }
+    let free = task.free - first;
+    let s = nested(&mut mem[first..], Task { free, ..task }, count)?;
+    Ok(Step {
+        read: first + s.read,
+        ..s
+    })
 }

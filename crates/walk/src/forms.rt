@@ -9,37 +9,36 @@ ghost use Rattle.walk.specs.declared.Child.TheVariants.{Helperform, Compileform}
 ghost use Rattle.walk.specs.declared.Rest.TheVariants.{Listed, Parts};
 
 use crate::bodies::either;
-use crate::keep::{finished, keep};
+use crate::keep::{finished, keep, over_long};
 use crate::scopes::new_args;
-use crate::{Child, Drawn, Piece, Rest, Task, Way};
+use crate::{Child, Piece, Rest, Task, Way};
+use names::Refusal;
 use names::bytes::copy;
-use names::refusals::placeless;
 use records::helpers::{constant_view, form_view, function_view, macro_view, namespace_view};
 use records::record::helper_mark;
 use records::skip::skip;
-use records::{Family, Step};
+use records::{Family, HelperMark, Step};
 
 // `rename_args_helperform` of the H record at the start of mem.
 #[cycle(forms)]
-pub fn args_helperform(mem: &mut [u8], t: Task) -> Step
+pub fn args_helperform(mem: &mut [u8], t: Task) -> Result<Step, Refusal>
     requires { TreeReady Helperform true mem.old t }
     ensures { WalksTree Helperform true mem.old mem.new t result }
 {
-    let k = helper_mark(mem);
-    match k {
-        0 => {
+    match helper_mark(mem) {
+        Some(HelperMark::Constant) => {
             let v = constant_view(mem);
             after(mem, v.next, Rest::OneBody, Way::Own, t)
         }
-        1 => {
+        Some(HelperMark::Macro) => {
             let v = macro_view(mem);
             renewed(mem, v.args, Rest::OneForm, t)
         }
-        2 => {
+        Some(HelperMark::Function) => {
             let v = function_view(mem);
             renewed(mem, v.args, Rest::OneBody, t)
         }
-        3 => {
+        Some(HelperMark::Namespace) => {
             let v = namespace_view(mem);
             after(mem, v.first - 1, Rest::Listed, Way::Own, t)
         }
@@ -49,21 +48,20 @@ pub fn args_helperform(mem: &mut [u8], t: Task) -> Step
 
 // `rename_in_helperform` of the H record at the start of mem.
 #[cycle(forms)]
-pub fn in_helperform(mem: &mut [u8], t: Task) -> Step
+pub fn in_helperform(mem: &mut [u8], t: Task) -> Result<Step, Refusal>
     requires { TreeReady Helperform false mem.old t }
     ensures { WalksTree Helperform false mem.old mem.new t result }
 {
-    let k = helper_mark(mem);
-    match k {
-        0 => {
+    match helper_mark(mem) {
+        Some(HelperMark::Constant) => {
             let v = constant_view(mem);
             after(mem, v.next, Rest::OneBody, Way::In, t)
         }
-        1 => {
+        Some(HelperMark::Macro) => {
             let v = macro_view(mem);
             after(mem, v.next, Rest::OneForm, Way::In, t)
         }
-        2 => {
+        Some(HelperMark::Function) => {
             let v = function_view(mem);
             after(mem, v.next, Rest::OneBody, Way::In, t)
         }
@@ -72,7 +70,7 @@ pub fn in_helperform(mem: &mut [u8], t: Task) -> Step
 }
 
 // The H record at the start of mem as it is.
-fn keep_helper(mem: &mut [u8], t: Task) -> Step
+fn keep_helper(mem: &mut [u8], t: Task) -> Result<Step, Refusal>
     requires { (owning : Bool) × TreeReady Helperform owning mem.old t }
     ensures { KeepsHelper mem.old mem.new t result }
 {
@@ -82,7 +80,7 @@ fn keep_helper(mem: &mut [u8], t: Task) -> Step
 
 // `rename_args_compileform` of the CF at the start of mem.
 #[cycle(forms)]
-pub fn args_compileform(mem: &mut [u8], t: Task) -> Step
+pub fn args_compileform(mem: &mut [u8], t: Task) -> Result<Step, Refusal>
     requires { TreeReady Compileform true mem.old t }
     ensures { WalksTree Compileform true mem.old mem.new t result }
 {
@@ -92,7 +90,7 @@ pub fn args_compileform(mem: &mut [u8], t: Task) -> Step
 
 // `rename_in_compileform` of the CF at the start of mem.
 #[cycle(forms)]
-pub fn in_compileform(mem: &mut [u8], t: Task) -> Step
+pub fn in_compileform(mem: &mut [u8], t: Task) -> Result<Step, Refusal>
     requires { TreeReady Compileform false mem.old t }
     ensures { WalksTree Compileform false mem.old mem.new t result }
 {
@@ -101,7 +99,7 @@ pub fn in_compileform(mem: &mut [u8], t: Task) -> Step
 }
 
 // `rename_children_compileform` of the CF at the start of mem.
-pub fn children_compileform(mem: &mut [u8], t: Task) -> Step
+pub fn children_compileform(mem: &mut [u8], t: Task) -> Result<Step, Refusal>
     requires { TreeReady Compileform true mem.old t }
     ensures { WalksChildren mem.old mem.new t result }
 {
@@ -111,110 +109,71 @@ pub fn children_compileform(mem: &mut [u8], t: Task) -> Step
 
 // A record that is kept up to a place, with the rest that stands there by the rules of a way.
 #[cycle(forms)]
-fn after(mem: &mut [u8], at: usize, kind: Rest, way: Way, t: Task) -> Step
+fn after(mem: &mut [u8], at: usize, kind: Rest, way: Way, t: Task) -> Result<Step, Refusal>
     requires { AfterReady kind way mem.old at t }
     ensures { WalksAfter kind way mem.old mem.new at t result }
 {
-    let free = t.free;
-    copy(mem, 0, free, at);
-    match rest(
-        &mut mem[at..],
-        kind,
-        way,
-        0,
-        Task {
-            free,
-            map: t.map,
-            f: t.f,
-            depth: t.depth - 1,
-            counter: t.counter,
-        },
-    ) {
-        Piece::Refused(r) => Step::Refused(r),
-        Piece::Done(r, w, _, c) => finished(at + r, at + w, t.f, c),
-    }
+    copy(mem, 0, t.free, at);
+    let below = Task {
+        depth: t.depth - 1,
+        ..t
+    };
+    let all = rest(&mut mem[at..], kind, way, 0, below)?;
+    finished(at + all.read, at + all.written, t.f, all.counter)
 }
 
 // A record whose args stand at a place: new names for the args, and the rest behind them by the
 // args-rules and then by the in-rules with these names.
 #[cycle(forms)]
-fn renewed(mem: &mut [u8], args: usize, kind: Rest, t: Task) -> Step
+fn renewed(mem: &mut [u8], args: usize, kind: Rest, t: Task) -> Result<Step, Refusal>
     requires { RenewedReady kind mem.old args t }
     ensures { WalksRenewed kind mem.old mem.new args t result }
 {
-    let free = t.free;
-    copy(mem, 0, free, args);
-    match new_args(&mut mem[args..], free, true, t.f, t.counter) {
-        Drawn::Refused(r) => Step::Refused(r),
-        Drawn::Done(r, w, m, c) => {
-            let q = args + r;
-            match both(
-                &mut mem[q..],
-                kind,
-                w,
-                Task {
-                    free: free + args + w - q,
-                    map: m,
-                    f: t.f,
-                    depth: t.depth - 1,
-                    counter: c,
-                },
-            ) {
-                Piece::Refused(r) => Step::Refused(r),
-                Piece::Done(i, x, _, d) => finished(q + i, args + w + x, t.f, d),
-            }
-        }
-    }
+    copy(mem, 0, t.free, args);
+    let new = new_args(&mut mem[args..], t.free, true, t.f, t.counter)?;
+    let q = args + new.read;
+    let behind = Task {
+        free: t.free + args + new.written - q,
+        map: new.map,
+        depth: t.depth - 1,
+        counter: new.counter,
+        ..t
+    };
+    let all = both(&mut mem[q..], kind, new.written, behind)?;
+    finished(
+        q + all.read,
+        args + new.written + all.written,
+        t.f,
+        all.counter,
+    )
 }
 
 // The rest at the start of mem by the args-rules, in memory that ends where the map starts, and then
 // that by the in-rules, which takes its place; beside results of `sum` bytes.
 #[cycle(forms)]
-fn both(mem: &mut [u8], kind: Rest, sum: usize, t: Task) -> Piece
+fn both(mem: &mut [u8], kind: Rest, sum: usize, t: Task) -> Result<Piece, Refusal>
     requires { BothRestReady kind mem.old sum t }
     ensures { WalksBothRest kind mem.old mem.new sum t result }
 {
     let top = mem.len() - t.map;
     let to = t.free;
-    match rest(
-        &mut mem[..top],
-        kind,
-        Way::Own,
-        sum,
-        Task {
-            free: to,
-            map: 0,
-            f: t.f,
-            depth: t.depth,
-            counter: t.counter,
-        },
-    ) {
-        Piece::Refused(r) => Piece::Refused(r),
-        Piece::Done(r, w, s, c) => match rest(
-            &mut mem[to..],
-            kind,
-            Way::Further,
-            s,
-            Task {
-                free: w,
-                map: t.map,
-                f: t.f,
-                depth: t.depth,
-                counter: c,
-            },
-        ) {
-            Piece::Refused(r) => Piece::Refused(r),
-            Piece::Done(_, x, s, d) => {
-                copy(mem, to + w, to, x);
-                Piece::Done(r, x, s, d)
-            }
-        },
-    }
+    let own = rest(&mut mem[..top], kind, Way::Own, sum, Task { map: 0, ..t })?;
+    let over = Task {
+        free: own.written,
+        counter: own.counter,
+        ..t
+    };
+    let inner = rest(&mut mem[to..], kind, Way::Further, own.sum, over)?;
+    copy(mem, to + own.written, to, inner.written);
+    Ok(Piece {
+        read: own.read,
+        ..inner
+    })
 }
 
 // The rest at the start of mem, beside results of `sum` bytes.
 #[cycle(forms)]
-fn rest(mem: &mut [u8], kind: Rest, way: Way, sum: usize, t: Task) -> Piece
+fn rest(mem: &mut [u8], kind: Rest, way: Way, sum: usize, t: Task) -> Result<Piece, Refusal>
     requires { RestReady kind way mem.old sum t }
     ensures { WalksRest kind way mem.old mem.new sum t result }
 {
@@ -228,49 +187,45 @@ fn rest(mem: &mut [u8], kind: Rest, way: Way, sum: usize, t: Task) -> Piece
 
 // A count and so many helpers, and the body behind them.
 #[cycle(forms)]
-fn parts(mem: &mut [u8], way: Way, sum: usize, t: Task) -> Piece
+fn parts(mem: &mut [u8], way: Way, sum: usize, t: Task) -> Result<Piece, Refusal>
     requires { RestReady Parts way mem.old sum t }
     ensures { WalksRest Parts way mem.old mem.new sum t result }
 {
-    match listed(mem, way, sum, t) {
-        Piece::Refused(r) => Piece::Refused(r),
-        Piece::Done(r, w, s, c) => match child(
-            &mut mem[r..],
-            Child::Bodyform,
-            way,
-            s,
-            Task {
-                free: t.free + w - r,
-                map: t.map,
-                f: t.f,
-                depth: t.depth,
-                counter: c,
-            },
-        ) {
-            Piece::Refused(r) => Piece::Refused(r),
-            Piece::Done(i, x, s, d) => Piece::Done(r + i, w + x, s, d),
-        },
-    }
+    let all = listed(mem, way, sum, t)?;
+    let r = all.read;
+    let behind = Task {
+        free: t.free + all.written - r,
+        counter: all.counter,
+        ..t
+    };
+    let body = child(&mut mem[r..], Child::Bodyform, way, all.sum, behind)?;
+    Ok(Piece {
+        read: r + body.read,
+        written: all.written + body.written,
+        ..body
+    })
 }
 
 // A count, which is kept, and so many helpers.
 #[cycle(forms)]
-fn listed(mem: &mut [u8], way: Way, sum: usize, t: Task) -> Piece
+fn listed(mem: &mut [u8], way: Way, sum: usize, t: Task) -> Result<Piece, Refusal>
     requires { RestReady Listed way mem.old sum t }
     ensures { WalksRest Listed way mem.old mem.new sum t result }
 {
     let to = t.free;
     let count = mem[0];
     mem[to] = count;
-    match helpers(&mut mem[1..], count, way, sum, t) {
-        Piece::Refused(r) => Piece::Refused(r),
-        Piece::Done(r, w, s, c) => Piece::Done(1 + r, 1 + w, s, c),
-    }
+    let all = helpers(&mut mem[1..], count, way, sum, t)?;
+    Ok(Piece {
+        read: 1 + all.read,
+        written: 1 + all.written,
+        ..all
+    })
 }
 
 // So many helpers, one after the other from the start of mem.
 #[cycle(forms)]
-fn helpers(mem: &mut [u8], count: u8, way: Way, sum: usize, t: Task) -> Piece
+fn helpers(mem: &mut [u8], count: u8, way: Way, sum: usize, t: Task) -> Result<Piece, Refusal>
     requires { HelpersReady way mem.old count sum t }
     ensures { WalksHelpers way mem.old mem.new count sum t result }
 {
@@ -278,51 +233,36 @@ fn helpers(mem: &mut [u8], count: u8, way: Way, sum: usize, t: Task) -> Piece
     let mut to = t.free;
     let mut held = sum;
     let mut counter = t.counter;
-    let mut i = 0;
-    while i < count {
-        match child(
-            &mut mem[at..],
-            Child::Helperform,
-            way,
-            held,
-            Task {
-                free: to - at,
-                map: t.map,
-                f: t.f,
-                depth: t.depth,
-                counter,
-            },
-        ) {
-            Piece::Refused(r) => {
-                return Piece::Refused(r);
-            }
-            Piece::Done(r, w, s, c) => {
-                at += r;
-                to += w;
-                held = s;
-                counter = c;
-            }
-        }
-        i += 1;
+    for _ in 0..count {
+        let free = to - at;
+        let next = Task { free, counter, ..t };
+        let one = child(&mut mem[at..], Child::Helperform, way, held, next)?;
+        at += one.read;
+        to += one.written;
+        held = one.sum;
+        counter = one.counter;
     }
-    Piece::Done(at, to - t.free, held, counter)
+    Ok(Piece {
+        read: at,
+        written: to - t.free,
+        sum: held,
+        counter,
+    })
 }
 
 // The record at the start of mem as a child, whose result comes into the sum.
 #[cycle(forms)]
-fn child(mem: &mut [u8], kind: Child, way: Way, sum: usize, t: Task) -> Piece
+fn child(mem: &mut [u8], kind: Child, way: Way, sum: usize, t: Task) -> Result<Piece, Refusal>
     requires { ChildReady kind way mem.old sum t }
     ensures { WalksChild kind way mem.old mem.new sum t result }
 {
-    match by_rule(mem, kind, by_args(way), t) {
-        Step::Refused(r) => Piece::Refused(r),
-        Step::Done(r, w, c) => counted(r, w, way, sum, t.f, c),
-    }
+    let s = by_rule(mem, kind, by_args(way), t)?;
+    counted(s, way, sum, t.f)
 }
 
 // The record at the start of mem by the args-rule or the in-rule of its kind.
 #[cycle(forms)]
-fn by_rule(mem: &mut [u8], kind: Child, owning: bool, t: Task) -> Step
+fn by_rule(mem: &mut [u8], kind: Child, owning: bool, t: Task) -> Result<Step, Refusal>
     requires { TreeReady kind owning mem.old t }
     ensures { WalksTree kind owning mem.old mem.new t result }
 {
@@ -354,16 +294,21 @@ fn by_args(way: Way) -> bool
     }
 }
 
-// A child that read and wrote so many bytes: its result is added to the sum.
-fn counted(read: usize, written: usize, way: Way, sum: usize, f: usize, counter: u64) -> Piece
-    requires { Sumable way sum read written }
-    ensures { AddsResult way sum read written f counter result }
+// A child that is done: its result is added to the sum.
+fn counted(s: Step, way: Way, sum: usize, f: usize) -> Result<Piece, Refusal>
+    requires { Sumable way sum s.read s.written }
+    ensures { AddsResult way sum s.read s.written f s.counter result }
 {
-    let s = added(way, sum, read, written);
-    if f < s {
-        return Piece::Refused(placeless(7));
+    let sum = added(way, sum, s.read, s.written);
+    if f < sum {
+        return Err(over_long());
     }
-    Piece::Done(read, written, s, counter)
+    Ok(Piece {
+        read: s.read,
+        written: s.written,
+        sum,
+        counter: s.counter,
+    })
 }
 
 // The sum with a new result of so many bytes; one that is replaced leaves it first.

@@ -7,12 +7,13 @@ ghost use Rattle.walk.specs.Leaves.{InBody, IsQuoted, IsValue, KeepsBody, Rename
 use crate::Task;
 use crate::keep::{keep, over_long};
 use crate::substitute::rename_atom;
+use names::Refusal;
 use names::bytes::copy;
 use records::skip::skip;
 use records::{Family, MARK_WIDTH, Step};
 
 // Keeps the B record at the start of mem.
-pub fn keep_body(mem: &mut [u8], task: Task) -> Step
+pub fn keep_body(mem: &mut [u8], task: Task) -> Result<Step, Refusal>
     requires { Asks body_bytes ValidBody mem.old task }
     ensures { KeepsBody mem.old mem.new task result }
 {
@@ -21,31 +22,25 @@ pub fn keep_body(mem: &mut [u8], task: Task) -> Step
 }
 
 // A mark, and the S record behind it: an atom alone goes by the map.
-fn rename_behind_mark(mem: &mut [u8], task: Task) -> Step
+fn rename_behind_mark(mem: &mut [u8], task: Task) -> Result<Step, Refusal>
     requires { Asks with_mark_bytes ValidWithMark mem.old task }
     ensures { RenamesWithMark mem.old mem.new task result }
 {
     if task.f < MARK_WIDTH {
-        return over_long();
+        return Err(over_long());
     }
     copy(mem, 0, task.free, MARK_WIDTH);
-    match rename_atom(
-        &mut mem[MARK_WIDTH..],
-        Task {
-            free: task.free,
-            map: task.map,
-            f: task.f - MARK_WIDTH,
-            depth: task.depth,
-            counter: task.counter,
-        },
-    ) {
-        Step::Refused(refusal) => Step::Refused(refusal),
-        Step::Done(r, w, c) => Step::Done(MARK_WIDTH + r, MARK_WIDTH + w, c),
-    }
+    let f = task.f - MARK_WIDTH;
+    let s = rename_atom(&mut mem[MARK_WIDTH..], Task { f, ..task })?;
+    Ok(Step {
+        read: MARK_WIDTH + s.read,
+        written: MARK_WIDTH + s.written,
+        counter: s.counter,
+    })
 }
 
 // In-body of a BQ.
-pub fn rename_quoted(mem: &mut [u8], task: Task) -> Step
+pub fn rename_quoted(mem: &mut [u8], task: Task) -> Result<Step, Refusal>
     requires { Asks body_bytes (ValidKind IsQuoted) mem.old task }
     ensures { InBody IsQuoted mem.old mem.new task result }
 {
@@ -53,7 +48,7 @@ pub fn rename_quoted(mem: &mut [u8], task: Task) -> Step
 }
 
 // In-body of a BV.
-pub fn rename_value(mem: &mut [u8], task: Task) -> Step
+pub fn rename_value(mem: &mut [u8], task: Task) -> Result<Step, Refusal>
     requires { Asks body_bytes (ValidKind IsValue) mem.old task }
     ensures { InBody IsValue mem.old mem.new task result }
 {

@@ -7,8 +7,6 @@
 // every B record. `forms` has the rules on H records and CF, and `call` the three calls.
 #![tactic(auto)]
 
-use names::Refusal;
-
 pub mod bodies;
 pub mod call;
 pub mod desugar;
@@ -42,35 +40,34 @@ pub struct Growth {
     pub end: usize,
 }
 
-// What drawing names answers: how far they are drawn, or its refusal.
+// What a piece of a rule read and wrote, the sum of the results that the rule then holds, and the
+// counter.
 #[derive(Clone, Copy)]
-pub enum Invented {
-    Drawn(Growth),
-    Refused(Refusal),
+pub struct Piece {
+    pub read: usize,
+    pub written: usize,
+    pub sum: usize,
+    pub counter: u64,
 }
 
-// What a piece of a rule answers: how many bytes it read and wrote, the sum of the results that the rule
-// then holds, and the counter; or a refusal.
+// Args or a pattern by names drawn for them: how many bytes were read and written, how many the map
+// has then, and the counter.
 #[derive(Clone, Copy)]
-pub enum Piece {
-    Done(usize, usize, usize, u64),
-    Refused(Refusal),
+pub struct Drawn {
+    pub read: usize,
+    pub written: usize,
+    pub map: usize,
+    pub counter: u64,
 }
 
-// Args or patterns by names drawn for them: how many bytes were read and written, how many the map
-// has then, and the counter; or a refusal.
+// Bindings or patterns made: how many bytes were written, and the sum, the bytes of the map and the
+// counter then.
 #[derive(Clone, Copy)]
-pub enum Drawn {
-    Done(usize, usize, usize, u64),
-    Refused(Refusal),
-}
-
-// A binding of an assign: how many bytes were written, the sum, the bytes of the map and the counter
-// then; or a refusal.
-#[derive(Clone, Copy)]
-pub enum Made {
-    Done(usize, usize, usize, u64),
-    Refused(Refusal),
+pub struct Made {
+    pub written: usize,
+    pub sum: usize,
+    pub map: usize,
+    pub counter: u64,
 }
 
 // Where a `qq` matters to the names of an S record: nowhere (`rename_in_cons` without qq); outside one

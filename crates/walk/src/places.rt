@@ -13,10 +13,8 @@ pub fn binding_starts(s: &[u8], first: usize, starts: &mut [usize])
     ensures { FindsStarts s.now first starts.old starts.new }
 {
     starts[0] = first;
-    let mut i = 1;
-    while i < starts.len() {
+    for i in 1..starts.len() {
         starts[i] = past_record(Family::Binding, s, starts[i - 1]);
-        i += 1;
     }
 }
 

@@ -44,32 +44,29 @@ fn is_atom(s: &[u8], word: &[u8]) -> bool
     same(&s[start..end], word)
 }
 
-// Where the element starts if the S record that s starts with is a proper list of one; or else 0.
-fn only(s: &[u8]) -> usize
+// Where the element starts if the S record that s starts with is a proper list of one.
+fn only(s: &[u8]) -> Option<usize>
     ensures { SeesOnly s.now result }
 {
     let v = sexp_view(s);
     let SexpView::Pair(head) = v else {
-        return 0;
+        return None;
     };
     let next = head + skip_sexp(&s[head..]);
     if nilp(&s[next..]) {
-        return head;
+        return Some(head);
     }
-    0
+    None
 }
 
-// Where the element starts if the tail of the SC at the start is a proper list of one; or else 0.
-fn single(s: &[u8], head: usize) -> usize
+// Where the element starts if the tail of the SC at the start is a proper list of one.
+fn single(s: &[u8], head: usize) -> Option<usize>
     requires { HeadAt s.now head }
     ensures { SeesOnlyOfTail s.now result }
 {
     let tail = head + skip_sexp(&s[head..]);
-    let x = only(&s[tail..]);
-    if x == 0 {
-        return 0;
-    }
-    tail + x
+    let x = only(&s[tail..])?;
+    Some(tail + x)
 }
 
 // The plan for an SC inside `qq`.
@@ -78,10 +75,8 @@ fn in_qq(s: &[u8], head: usize) -> Plan
     ensures { PlansPair (rename_in_qq true) s.now result }
 {
     if is_atom(&s[head..], b"unquote") {
-        let x = single(s, head);
-        if x != 0 {
-            let end = skip_sexp(s);
-            return Plan::Alone(Quasi::Outside, x, end);
+        if let Some(x) = single(s, head) {
+            return Plan::Alone(Quasi::Outside, x, skip_sexp(s));
         }
     }
     Plan::Parts
@@ -93,25 +88,22 @@ fn in_cons(s: &[u8], head: usize, qq: bool) -> Plan
     ensures { PlansPair (rename_in_cons qq) s.now result }
 {
     if is_atom(&s[head..], b"q") {
-        let end = skip_sexp(s);
-        return Plan::Kept(end);
+        return Plan::Kept(skip_sexp(s));
     }
     if is_atom(&s[head..], b"quote") {
-        let x = single(s, head);
         let end = skip_sexp(s);
-        if x != 0 {
-            return Plan::Requoted(x, end);
-        }
-        return Plan::Kept(end);
+        return match single(s, head) {
+            Some(x) => Plan::Requoted(x, end),
+            None => Plan::Kept(end),
+        };
     }
     if qq {
         if is_atom(&s[head..], b"qq") {
-            let x = single(s, head);
             let end = skip_sexp(s);
-            if x != 0 {
-                return Plan::Alone(Quasi::Inside, x, end);
-            }
-            return Plan::Kept(end);
+            return match single(s, head) {
+                Some(x) => Plan::Alone(Quasi::Inside, x, end),
+                None => Plan::Kept(end),
+            };
         }
     }
     Plan::Parts

@@ -11,29 +11,33 @@ ghost use Rattle.walk.specs.Walking.{let_aside};
 
 use crate::invent::{invent_new_names_sexp, push};
 use crate::substitute::rename_in_cons;
-use crate::{Drawn, Growth, Invented, Task};
-use names::NAME_WIDTH;
+use crate::{Drawn, Growth, Made, Task};
 use names::bytes::{copy, number};
+use names::{NAME_WIDTH, Refusal};
 use records::past::past_pattern;
 use records::skip::past_record;
-use records::{CONS_LIMIT, Family, HEAD_WIDTH, LOC_WIDTH, Step};
+use records::{CONS_LIMIT, Family, HEAD_WIDTH, LOC_WIDTH};
 
 // The bytes of a BB before its pattern.
 pub const BINDING_HEAD: usize = HEAD_WIDTH + LOC_WIDTH;
 
 // Draws names for the S record at the start of mem, and writes it by them to free.
-pub fn new_args(mem: &mut [u8], free: usize, qq: bool, f: usize, counter: u64) -> Drawn
+pub fn new_args(
+    mem: &mut [u8],
+    free: usize,
+    qq: bool,
+    f: usize,
+    counter: u64,
+) -> Result<Drawn, Refusal>
     requires { ArgsReady mem.old free f counter }
     ensures { DrawsArgs mem.old mem.new free qq f counter result }
 {
-    match invent_new_names_sexp(mem, 0, counter, CONS_LIMIT) {
-        Invented::Refused(r) => Drawn::Refused(r),
-        Invented::Drawn(g) => by_names(mem, free, qq, f, g),
-    }
+    let g = invent_new_names_sexp(mem, 0, counter, CONS_LIMIT)?;
+    by_names(mem, free, qq, f, g)
 }
 
 // The S record at the start of mem by the names that were drawn for it.
-fn by_names(mem: &mut [u8], free: usize, qq: bool, f: usize, g: Growth) -> Drawn
+fn by_names(mem: &mut [u8], free: usize, qq: bool, f: usize, g: Growth) -> Result<Drawn, Refusal>
     requires { Asks sexp_bytes (Held cons_limit) mem.old (names_task free f g) }
     ensures { PutsNames mem.old mem.new free qq f g result }
 {
@@ -44,32 +48,41 @@ fn by_names(mem: &mut [u8], free: usize, qq: bool, f: usize, g: Growth) -> Drawn
         depth: CONS_LIMIT,
         counter: g.counter,
     };
-    match rename_in_cons(mem, task, qq) {
-        Step::Refused(r) => Drawn::Refused(r),
-        Step::Done(r, w, c) => Drawn::Done(r, w, g.len, c),
-    }
+    let s = rename_in_cons(mem, task, qq)?;
+    Ok(Drawn {
+        read: s.read,
+        written: s.written,
+        map: g.len,
+        counter: s.counter,
+    })
 }
 
 // The same of a Name: `@` draws a number too.
-fn new_name(mem: &mut [u8], free: usize, counter: u64) -> Drawn
+fn new_name(mem: &mut [u8], free: usize, counter: u64) -> Result<Drawn, Refusal>
     requires { NameReady mem.old free counter }
     ensures { DrawsName mem.old mem.new free counter result }
 {
     let end = 1 + NAME_WIDTH + number(mem, 1, NAME_WIDTH);
-    match push(mem, 1 + NAME_WIDTH, end, 0, counter) {
-        Invented::Refused(r) => Drawn::Refused(r),
-        Invented::Drawn(g) => {
-            let made = g.len - (end - 1);
-            let at = mem.len() - made;
-            mem[free] = 0;
-            copy(mem, at, free + 1, made);
-            Drawn::Done(end, 1 + made, g.len, g.counter)
-        }
-    }
+    let g = push(mem, 1 + NAME_WIDTH, end, 0, counter)?;
+    let made = g.len - (end - 1);
+    let at = mem.len() - made;
+    mem[free] = 0;
+    copy(mem, at, free + 1, made);
+    Ok(Drawn {
+        read: end,
+        written: 1 + made,
+        map: g.len,
+        counter: g.counter,
+    })
 }
 
 // The same of a pattern, which starts with the byte that says its kind.
-fn make_binding_unique(mem: &mut [u8], free: usize, f: usize, counter: u64) -> Drawn
+fn make_binding_unique(
+    mem: &mut [u8],
+    free: usize,
+    f: usize,
+    counter: u64,
+) -> Result<Drawn, Refusal>
     requires { PatternReady mem.old free f counter }
     ensures { DrawsPattern mem.old mem.new free f counter result }
 {
@@ -77,10 +90,12 @@ fn make_binding_unique(mem: &mut [u8], free: usize, f: usize, counter: u64) -> D
         return new_name(mem, free, counter);
     }
     mem[free] = 1;
-    match new_args(&mut mem[1..], free, false, f, counter) {
-        Drawn::Refused(r) => Drawn::Refused(r),
-        Drawn::Done(r, w, m, c) => Drawn::Done(1 + r, 1 + w, m, c),
-    }
+    let d = new_args(&mut mem[1..], free, false, f, counter)?;
+    Ok(Drawn {
+        read: 1 + d.read,
+        written: 1 + d.written,
+        ..d
+    })
 }
 
 // How much the end of memory holds beside the results of a parallel let: its map, and its new patterns.
@@ -109,7 +124,13 @@ fn summed(kind: u8, w: usize) -> usize
 // New patterns for the bindings from a place on, written one after the other from `aside` on, and
 // their joined map. Each has a map of its own, which stands before those of earlier bindings. Answers
 // the bytes of the new patterns, the sum of the Complex ones, the bytes of the map, and the counter.
-pub fn make_bindings_unique(mem: &mut [u8], first: usize, count: u8, aside: usize, t: Task) -> Drawn
+pub fn make_bindings_unique(
+    mem: &mut [u8],
+    first: usize,
+    count: u8,
+    aside: usize,
+    t: Task,
+) -> Result<Made, Refusal>
     requires { PatternsReady mem.old first count aside t }
     ensures { DrawsPatterns mem.old mem.new first count aside t result }
 {
@@ -118,26 +139,23 @@ pub fn make_bindings_unique(mem: &mut [u8], first: usize, count: u8, aside: usiz
     let mut sum = 0;
     let mut map = 0;
     let mut counter = t.counter;
-    let mut i = 0;
-    while i < count {
+    for _ in 0..count {
         let p = at + BINDING_HEAD;
         let top = mem.len() - map;
         let kind = mem[p];
-        match make_binding_unique(&mut mem[p..top], to - p, t.f - sum, counter) {
-            Drawn::Refused(r) => {
-                return Drawn::Refused(r);
-            }
-            Drawn::Done(r, w, m, c) => {
-                sum += summed(kind, w);
-                to += w;
-                map += m;
-                counter = c;
-                at = past_record(Family::Body, mem, p + r);
-            }
-        }
-        i += 1;
+        let d = make_binding_unique(&mut mem[p..top], to - p, t.f - sum, counter)?;
+        sum += summed(kind, d.written);
+        to += d.written;
+        map += d.map;
+        counter = d.counter;
+        at = past_record(Family::Body, mem, p + d.read);
     }
-    Drawn::Done(to - aside, sum, map, counter)
+    Ok(Made {
+        written: to - aside,
+        sum,
+        map,
+        counter,
+    })
 }
 
 // Writes a binding up to its body, and answers how many bytes: with the pattern that is kept aside, or as

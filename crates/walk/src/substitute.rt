@@ -16,7 +16,7 @@ use crate::plans::plan_of;
 use crate::{Plan, Quasi, Task};
 use names::bytes::{copy, put, put_name};
 use names::map::lookup;
-use names::{NAME_LIMIT, NAME_WIDTH};
+use names::{NAME_LIMIT, NAME_WIDTH, Refusal};
 use records::sexps::sexp_view;
 use records::skip::skip_sexp;
 use records::{HEAD_WIDTH, LOC_WIDTH, MARK_WIDTH, NameView, SexpView, Step};
@@ -33,7 +33,7 @@ fn put_atom(mem: &mut [u8], free: usize, name: &[u8])
 }
 
 // An SA, by the map; n is where its name stands.
-fn rename_name(mem: &mut [u8], n: NameView, task: Task) -> Step
+fn rename_name(mem: &mut [u8], n: NameView, task: Task) -> Result<Step, Refusal>
     requires sees_sexp { SeesSexp mem.old (Atom n) }
     requires asks { Asks sexp_bytes SexpFields mem.old task }
     ensures { Substitutes rename_atom mem.old mem.new task result }
@@ -48,14 +48,18 @@ fn rename_name(mem: &mut [u8], n: NameView, task: Task) -> Step
     put(&mut name, 0, found);
     let size = HEAD_WIDTH + NAME_WIDTH + k;
     if task.f < size {
-        return over_long();
+        return Err(over_long());
     }
     put_atom(mem, task.free, &name[..k]);
-    Step::Done(end, size, task.counter)
+    Ok(Step {
+        read: end,
+        written: size,
+        counter: task.counter,
+    })
 }
 
 // An atom alone, by the map; every other S record is kept.
-pub fn rename_atom(mem: &mut [u8], task: Task) -> Step
+pub fn rename_atom(mem: &mut [u8], task: Task) -> Result<Step, Refusal>
     requires { Asks sexp_bytes SexpFields mem.old task }
     ensures { Substitutes rename_atom mem.old mem.new task result }
 {
@@ -68,7 +72,7 @@ pub fn rename_atom(mem: &mut [u8], task: Task) -> Step
 }
 
 // Rebuilds a `(quote v)` whose v starts at `at`: its inner SC and closing SN at the L of v.
-fn requote(mem: &mut [u8], task: Task, quasi: Quasi, at: usize, end: usize) -> Step
+fn requote(mem: &mut [u8], task: Task, quasi: Quasi, at: usize, end: usize) -> Result<Step, Refusal>
     requires asks { Asks sexp_bytes SexpFields mem.old task }
     requires plans { Plans (substitution quasi) mem.old (Requoted at end) }
     ensures { Substitutes (substitution quasi) mem.old mem.new task result }
@@ -77,89 +81,81 @@ fn requote(mem: &mut [u8], task: Task, quasi: Quasi, at: usize, end: usize) -> S
     let loc = at + MARK_WIDTH;
     let last = at + skip_sexp(&mem[at..]);
     if task.f < last + HEAD_WIDTH {
-        return over_long();
+        return Err(over_long());
     }
     copy(mem, 0, free, last);
     copy(mem, loc, free + at - LOC_WIDTH, LOC_WIDTH);
     put(mem, free + last, b"SN");
     copy(mem, loc, free + last + MARK_WIDTH, LOC_WIDTH);
-    Step::Done(end, last + HEAD_WIDTH, task.counter)
+    Ok(Step {
+        read: end,
+        written: last + HEAD_WIDTH,
+        counter: task.counter,
+    })
 }
 
 // The element that starts at `at` alone, by the rule `next`, for a record that ends at `end`.
 #[cycle(cons)]
-fn alone(mem: &mut [u8], task: Task, quasi: Quasi, next: Quasi, at: usize, end: usize) -> Step
+fn alone(
+    mem: &mut [u8],
+    task: Task,
+    quasi: Quasi,
+    next: Quasi,
+    at: usize,
+    end: usize,
+) -> Result<Step, Refusal>
     requires asks { Asks sexp_bytes (Held task.depth) mem.old task }
     requires plans { Plans (substitution quasi) mem.old (Alone next at end) }
     ensures { Substitutes (substitution quasi) mem.old mem.new task result }
 {
-    match rename(
-        &mut mem[at..],
-        Task {
-            free: task.free - at,
-            map: task.map,
-            f: task.f,
-            depth: task.depth - 1,
-            counter: task.counter,
-        },
-        next,
-    ) {
-        Step::Refused(refusal) => Step::Refused(refusal),
-        Step::Done(_, w, c) => Step::Done(end, w, c),
-    }
+    let inner = Task {
+        free: task.free - at,
+        depth: task.depth - 1,
+        ..task
+    };
+    let s = rename(&mut mem[at..], inner, next)?;
+    Ok(Step { read: end, ..s })
 }
 
 // An SC whose parts go on.
 #[cycle(cons)]
-fn pair(mem: &mut [u8], task: Task, quasi: Quasi) -> Step
+fn pair(mem: &mut [u8], task: Task, quasi: Quasi) -> Result<Step, Refusal>
     requires asks { Asks sexp_bytes (Held task.depth) mem.old task }
     requires pair_at_start { PairAtStart (substitution quasi) mem.old }
     ensures { Substitutes (substitution quasi) mem.old mem.new task result }
 {
     let at = HEAD_WIDTH;
-    let free = task.free;
-    let f = task.f;
-    if f < at {
-        return over_long();
+    if task.f < at {
+        return Err(over_long());
     }
-    copy(mem, 0, free, at);
+    copy(mem, 0, task.free, at);
     let depth = task.depth - 1;
-    match rename(
-        &mut mem[at..],
-        Task {
-            free,
-            map: task.map,
-            f: f - at,
-            depth,
-            counter: task.counter,
-        },
-        quasi,
-    ) {
-        Step::Refused(refusal) => Step::Refused(refusal),
-        Step::Done(hr, hw, c) => {
-            let t = at + hr;
-            let q = at + hw;
-            match rename(
-                &mut mem[t..],
-                Task {
-                    free: free + q - t,
-                    map: task.map,
-                    f: f - q,
-                    depth,
-                    counter: c,
-                },
-                quasi,
-            ) {
-                Step::Refused(refusal) => Step::Refused(refusal),
-                Step::Done(tr, tw, d) => Step::Done(t + tr, q + tw, d),
-            }
-        }
-    }
+    let first = Task {
+        f: task.f - at,
+        depth,
+        ..task
+    };
+    let h = rename(&mut mem[at..], first, quasi)?;
+    let t = at + h.read;
+    let q = at + h.written;
+    let second = Task {
+        free: task.free + q - t,
+        f: task.f - q,
+        depth,
+        counter: h.counter,
+        ..task
+    };
+    let u = rename(&mut mem[t..], second, quasi)?;
+    Ok(Step {
+        read: t + u.read,
+        written: q + u.written,
+        counter: u.counter,
+    })
 }
 
 // The names of the S record at the start of mem by the map.
 #[cycle(cons)]
-fn rename(mem: &mut [u8], task: Task, quasi: Quasi) -> Step
+fn rename(mem: &mut [u8], task: Task, quasi: Quasi) -> Result<Step, Refusal>
     requires { Asks sexp_bytes (Held task.depth) mem.old task }
     ensures { Substitutes (substitution quasi) mem.old mem.new task result }
 {
@@ -173,7 +169,7 @@ fn rename(mem: &mut [u8], task: Task, quasi: Quasi) -> Step
 }
 
 // Substitute (`rename_in_cons`); with qq the head `qq` is looked into.
-pub fn rename_in_cons(mem: &mut [u8], task: Task, qq: bool) -> Step
+pub fn rename_in_cons(mem: &mut [u8], task: Task, qq: bool) -> Result<Step, Refusal>
     requires { Asks sexp_bytes (Held task.depth) mem.old task }
     ensures { Substitutes (rename_in_cons qq) mem.old mem.new task result }
 {
@@ -184,7 +180,7 @@ pub fn rename_in_cons(mem: &mut [u8], task: Task, qq: bool) -> Step
 }
 
 // Inside `qq` (`rename_in_qq`); what an `unquote` holds is looked into by `rename_in_cons` with qq.
-pub fn rename_in_qq(mem: &mut [u8], task: Task) -> Step
+pub fn rename_in_qq(mem: &mut [u8], task: Task) -> Result<Step, Refusal>
     requires { Asks sexp_bytes (Held task.depth) mem.old task }
     ensures { Substitutes (rename_in_qq true) mem.old mem.new task result }
 {

@@ -3,4 +3,4 @@ use Rattle.commands.proofs.Records.{accepted_size}
 use Rattle.commands.proofs.check.judge.Goals as goal
 
 pub records_in-n-requires : goal.records_in-n-requires
-records_in-n-requires g c = accepted_size c.args.wanted c.args.f _ _ c.args.input.now c.open_input.ensures c.in-Accepted.is
+records_in-n-requires g c = accepted_size c.args.wanted c.args.f _ _ c.args.input.now c.in-Ok.ensures

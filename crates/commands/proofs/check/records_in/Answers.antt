@@ -3,4 +3,4 @@ use Rattle.commands.proofs.Records.{counts_records}
 use Rattle.commands.proofs.check.records_in.Goals as goal
 
 pub returns : goal.returns
-returns c = counts_records c.index_input-r.ensures
+returns c = counts_records c.index_input.ensures

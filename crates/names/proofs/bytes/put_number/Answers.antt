@@ -1,8 +1,7 @@
--- `names::bytes::put_number` meets its contract. The invariant: the last `done` bytes are written.
--- Assumes nothing.
+-- `names::bytes::put_number` meets its contract. Assumes nothing.
 use mathlib.Core.Path.{◌≡◌, refl, sym, ap, ap₂, ◌∙◌}
 use mathlib.Core.List.{[], ◌∷◌, ◌++◌, append_assoc, append-nil}
-use native.Mathlib.Nat.{pow-suc, sub-zero}
+use native.Mathlib.Nat.{pow-suc}
 use native.Mathlib.Omega.{arith}
 use Prim.Native.Nat.{ℕ, suc, ◌+◌, ◌*◌, ◌-◌, ◌/◌, ◌%◌, ◌^◌, ◌≤◌, ◌<◌}
 use lib.ListN.{length, set, length-set}
@@ -15,59 +14,54 @@ use Rattle.names.proofs.Numbers.{number_field_more}
 use Rattle.names.proofs.bytes.put_number.Invariants.{Half}
 use Rattle.names.proofs.bytes.put_number.Goals as goal
 
-half-none : (mem : Bytes) (at width n : ℕ) → n < 256 ^ width → Half mem at width n mem n 0
+half-none : (mem : Bytes) (at width n : ℕ) → n < 256 ^ width → Half mem at width n mem n (at + width)
 half-none mem at width n lt =
+    let e : at + width - at ≡ width = omega arith in
     record {
       tail = [];
-      le = omega arith;
-      whole = rw sub-zero (sym (append-nil (number_field width n)));
-      small = rw sub-zero lt;
+      within = (omega arith, omega arith);
+      whole = rw e (sym (append-nil (number_field width n)));
+      small = rw e lt;
       size = refl;
-      is = rw sub-zero (paste-zero mem (at + width) []);
+      is = paste-zero mem (at + width) [];
     }
 
-module _ {mem₀ : Bytes} {at width n : ℕ} {mem : Bytes} {left done : ℕ} (h : Half mem₀ at width n mem left done) (fit : at + width ≤ length mem₀) where
-  -- the byte v goes to q, before those that are written
-  half-more : (q v : ℕ) → done < width → q + (done + 1) ≡ at + width → v ≡ left % 256 → Half mem₀ at width n (set mem q v) (left / 256) (done + 1)
-  half-more q v lt place byte =
-      let w = width - (done + 1) in
-      let e : width - done ≡ suc w = omega arith in
-      let p : at + width - done ≡ q + 1 = omega arith in
-      let p' : at + width - (done + 1) ≡ q = omega arith in
+module _ {mem₀ : Bytes} {at width n : ℕ} {mem : Bytes} {left i : ℕ} (h : Half mem₀ at width n mem left i) (fit : at + width ≤ length mem₀) where
+  -- the byte before i is written
+  half-more : at < i → Half mem₀ at width n (set mem (i - 1) (left % 256)) (left / 256) (i - 1)
+  half-more lt =
+      let w = i - 1 - at in
+      let v = left % 256 in
+      let e : i - at ≡ suc w = omega arith in
+      let p : i ≡ i - 1 + 1 = omega arith in
       let parts : left ≡ 256 * (left / 256) + v = omega arith in
       let small : left / 256 < 256 ^ w = omega (arith, rw e at h.small, pow-suc 256 w) in
-      let field : number_field (width - done) left ≡ number_field w (left / 256) ++ v ∷ [] = ap₂ number_field e parts ∙ number_field_more w (left / 256) v small (omega arith) in
+      let field : number_field (i - at) left ≡ number_field w (left / 256) ++ v ∷ [] = ap₂ number_field e parts ∙ number_field_more w (left / 256) v small (omega arith) in
       record {
         tail = v ∷ h.tail;
-        le = omega arith;
+        within = (omega arith, omega (arith, h.within));
         whole = h.whole ∙ ap (λ (x : Bytes). x ++ h.tail) field ∙ append_assoc (number_field w (left / 256)) (v ∷ []) h.tail;
         small = small;
-        size = length-set mem q v ∙ h.size;
-        is = rw (h.is, p, p') (placed_before mem₀ q v h.tail (omega arith));
+        size = length-set mem (i - 1) v ∙ h.size;
+        is = ap (λ (l : Bytes). set l (i - 1) v) (h.is ∙ ap (λ (k : ℕ). placed mem₀ k h.tail) p) ∙ placed_before mem₀ (i - 1) v h.tail (omega (arith, h.within));
       }
 
-  half-done : width ≤ done → Filled mem₀ mem at (number_field width n) width
+  half-done : i ≤ at → Filled mem₀ mem at (number_field width n) width
   unfolding number_field
   half-done le =
-      let e : width - done ≡ 0 = omega (arith, h.le) in
-      let p : at + width - done ≡ at = omega (arith, h.le) in
+      let e : i - at ≡ 0 = omega arith in
+      let p : i ≡ at = omega (arith, h.within) in
       let w : number_field width n ≡ h.tail = rw e at h.whole in
       let l = number_field_length width n in
       let is : mem ≡ placed mem₀ at (number_field width n) = h.is ∙ ap₂ (placed mem₀) p (sym w) in
       let f : Filled mem₀ mem at (number_field width n) (length (number_field width n)) = rw is (placed_filled mem₀ at (number_field width n) (omega arith)) in
       rw l at f
 
-pub loop-done-init : goal.loop-done-init
-loop-done-init c = half-none _ _ _ _ c.requires.1
+pub loop-i-init : goal.loop-i-init
+loop-i-init c = half-none _ _ _ _ c.requires.1
 
-pub bounds-mem-at : goal.bounds-mem-at
-bounds-mem-at c = omega (arith, c.loop-done.invariant.size)
-
-pub loop-done-preserved : goal.loop-done-preserved
-loop-done-preserved c = half-more c.loop-done.invariant c.requires.0 _ _ c.loop-done-test.true (omega arith) (omega arith)
-
-pub shape_of-mem : goal.shape_of-mem
-shape_of-mem c = c.loop-done.invariant.size
+pub loop-i-preserved : goal.loop-i-preserved
+loop-i-preserved c = half-more c.loop-i.invariant c.requires.0 (omega arith)
 
 pub returns : goal.returns
-returns c = half-done c.loop-done.invariant c.requires.0 c.loop-done-test.false
+returns c = half-done c.loop-i.invariant c.requires.0 (omega arith)

@@ -1,5 +1,5 @@
 -- `ordering::assign::find_needs` meets its contract. The invariant: what is collected after j bodies. Assumes nothing.
-use mathlib.Core.Path.{refl, subst, ◌∙◌}
+use mathlib.Core.Path.{◌≡◌, refl, subst, ◌∙◌}
 use native.Mathlib.Omega.{arith}
 use Prim.Native.Nat.{ℕ, ◌≤◌, ◌<◌}
 use lib.ListN.{length, set, length-set}
@@ -9,10 +9,10 @@ use Rattle.ordering.proofs.Collected.{collected_none, collected_next, body_added
 use Rattle.ordering.proofs.assign.find_needs.Goals as goal
 
 pub loop-j-init : goal.loop-j-init
-loop-j-init c = (omega arith, refl, refl, λ bs b. collected_none bs)
+loop-j-init c = (refl, refl, λ bs b. collected_none bs)
 
 pub bounds-starts-j : goal.bounds-starts-j
-bounds-starts-j c = omega (arith, c.loop-j.invariant.2, c.requires.bodies_len_bound.1)
+bounds-starts-j c = omega (arith, c.loop-j.invariant.1, c.requires.bodies_len_bound.1)
 
 pub slice_bounds-body_needs-count : goal.slice_bounds-body_needs-count
 slice_bounds-body_needs-count c =
@@ -28,7 +28,7 @@ pub body_needs-r-requires : goal.body_needs-r-requires
 body_needs-r-requires c =
     let l = c.loop-j in
     let w = c.requires.collectable in
-    let f = l.invariant.3 w.0 w.1 in
+    let f = l.invariant.2 w.0 w.1 in
     (provisions_given _ _ w.0 w.1.provisions (omega (arith, w.1.size, c.requires.bodies_len_bound.0)), omega (arith, f.there.fits, f.count))
 
 pub loop-j-preserved : goal.loop-j-preserved
@@ -36,25 +36,22 @@ loop-j-preserved c =
     let l = c.loop-j in
     let g = c.body_needs-r in (
       omega arith,
-      omega arith,
-      length-set l.starts l.j l.n ∙ l.invariant.2,
+      length-set l.starts l.j l.n ∙ l.invariant.1,
       λ bs b.
-          let f = l.invariant.3 bs b in
+          let f = l.invariant.2 bs b in
           let lt : l.j < length bs = omega (arith, b.size) in
-          let fits : length (all_needs bs bs) ≤ length l.needs = omega (arith, b.fits, l.invariant.1) in
-          collected_next f lt fits (omega (arith, l.invariant.2, c.requires.bodies_len_bound.1)) (body_added f lt fits b.provisions b.bodies_at g.ensures),
+          let fits : length (all_needs bs bs) ≤ length l.needs = omega (arith, b.fits, l.invariant.0) in
+          collected_next f lt fits (omega (arith, l.invariant.1, c.requires.bodies_len_bound.1)) (body_added f lt fits b.provisions b.bodies_at g.ensures),
     )
-
-pub bounds-starts-j-2 : goal.bounds-starts-j-2
-bounds-starts-j-2 c = omega (arith, c.loop-j.invariant.2, c.requires.bodies_len_bound.1)
 
 pub returns : goal.returns
 returns c =
     let l = c.loop-j in
-    let room : l.j < length l.starts = omega (arith, l.invariant.2, c.requires.bodies_len_bound.1) in
+    let e : length c.args.bodies.now ≡ l.j = omega arith in
+    let room : l.j < length l.starts = omega (arith, l.invariant.1, c.requires.bodies_len_bound.1) in
     let w = c.requires.collectable in
-    record {
-      starts = subst (λ (k : ℕ). Starts k l.needs (set l.starts l.j l.n)) w.1.size
-          (collected_starts (l.invariant.3 w.0 w.1) (omega (arith, w.1.size)) room (omega (arith, w.1.size, c.requires.bodies_len_bound.0)) (omega (arith, w.1.fits, l.invariant.1)));
-      finds_needs = λ bs b. collected_all (l.invariant.3 bs b) (omega (arith, b.size)) room;
+    rw e record {
+      starts = subst (λ (k : ℕ). Starts k l.needs (set l.starts l.j l.n)) (w.1.size ∙ e)
+          (collected_starts (l.invariant.2 w.0 w.1) (omega (arith, w.1.size)) room (omega (arith, w.1.size, c.requires.bodies_len_bound.0)) (omega (arith, w.1.fits, l.invariant.0)));
+      finds_needs = λ bs b. collected_all (l.invariant.2 bs b) (omega (arith, b.size)) room;
     }

@@ -1,7 +1,6 @@
 -- `ordering::assign::find_needs` meets its contract. The invariant: what is collected after j bodies. Assumes nothing.
 use mathlib.Core.List.{List}
 use mathlib.Core.Path.{◌≡◌}
-use Prim.Native.Nat.{◌-◌, ◌≤◌}
 use lib.ListN.{length}
 use Rattle.records.specs.Records.{Binding}
 use Rattle.ordering.specs.Assign.{Collectable}
@@ -10,7 +9,4 @@ use Rattle.ordering.proofs.assign.find_needs.Given as goal
 
 abbrev pub invariant-loop-j : goal.invariant-loop-j
 invariant-loop-j l =
-    (l.j ≤ length l.bodies) × (length l.needs ≡ length l.initial.needs) × (length l.starts ≡ length l.initial.starts) × ((bs : List Binding) → Collectable l.s l.given l.bodies (length l.initial.needs) bs → Collected l.needs l.starts l.n l.j bs)
-
-abbrev pub decreases-loop-j : goal.decreases-loop-j
-decreases-loop-j l = length l.bodies - l.j
+    (length l.needs ≡ length l.initial.needs) × (length l.starts ≡ length l.initial.starts) × ((bs : List Binding) → Collectable l.s l.given l.bodies (length l.initial.needs) bs → Collected l.needs l.starts l.n l.j bs)

@@ -4,6 +4,7 @@ use mathlib.Core.Path.{refl}
 use native.Mathlib.Omega.{arith}
 use borrow.Author.Rules.{rules}
 use Rattle.names.specs.Names.{ascii}
+use Rattle.records.proofs.Marks.{body_placed}
 use Rattle.ordering.proofs.Bodies.{binding_reaches, let_reaches, call_reaches, tail_reaches, lambda_reaches, quote_reaches, value_reaches, body_lists, skip_lists}
 use Rattle.ordering.proofs.Several.{goes_first, goes_more, goes_end}
 use Rattle.ordering.proofs.Sexps.{reaches_none, reaches_part, lists_reaches}
@@ -15,24 +16,24 @@ binding_needs-child-requires t c = (omega arith, (c.requires.0, omega arith, ome
 pub binding_needs-returns : goal.binding_needs-returns
 binding_needs-returns t c = binding_reaches c.past_head.ensures c.past_bytes-p.ensures.past c.pattern_needs-q.ensures c.child.ensures (omega arith)
 
-pub body_needs-returns-in-0 : goal.body_needs-returns-in-0
-body_needs-returns-in-0 t c = body_lists c.body_mark-k.ensures c.in-0.is c.let_needs.ensures
+pub body_needs-returns-in-Some-Let : goal.body_needs-returns-in-Some-Let
+body_needs-returns-in-Some-Let t c = body_lists (body_placed c.in-Some-Let.field-0-is c.in-Some-Let.ensures) c.let_needs.ensures
 
-pub body_needs-returns-in-1 : goal.body_needs-returns-in-1
+pub body_needs-returns-in-Some-Quoted : goal.body_needs-returns-in-Some-Quoted
 unfolding ascii
-body_needs-returns-in-1 t c = body_lists c.body_mark-k.ensures c.in-1.is (quote_reaches c.past_bytes.ensures.past c.word-c.ensures c.child_sexp.ensures (omega arith))
+body_needs-returns-in-Some-Quoted t c = body_lists (body_placed c.in-Some-Quoted.field-0-is c.in-Some-Quoted.ensures) (quote_reaches c.past_bytes.ensures.past c.word-c.ensures c.child_sexp.ensures (omega arith))
 
-pub body_needs-returns-in-2 : goal.body_needs-returns-in-2
-body_needs-returns-in-2 t c = body_lists c.body_mark-k.ensures c.in-2.is (value_reaches c.past_bytes-in-2.ensures.past c.child_sexp-in-2.ensures)
+pub body_needs-returns-in-Some-Value : goal.body_needs-returns-in-Some-Value
+body_needs-returns-in-Some-Value t c = body_lists (body_placed c.in-Some-Value.field-0-is c.in-Some-Value.ensures) (value_reaches c.past_bytes-in-Some-Value.ensures.past c.child_sexp-in-Some-Value.ensures)
 
-pub body_needs-returns-in-3 : goal.body_needs-returns-in-3
-body_needs-returns-in-3 t c = body_lists c.body_mark-k.ensures c.in-3.is c.call_needs.ensures
+pub body_needs-returns-in-Some-Call : goal.body_needs-returns-in-Some-Call
+body_needs-returns-in-Some-Call t c = body_lists (body_placed c.in-Some-Call.field-0-is c.in-Some-Call.ensures) c.call_needs.ensures
 
-pub body_needs-returns-in-5 : goal.body_needs-returns-in-5
-body_needs-returns-in-5 t c = body_lists c.body_mark-k.ensures c.in-5.is c.lambda_needs.ensures
+pub body_needs-returns-in-Some-Lambda : goal.body_needs-returns-in-Some-Lambda
+body_needs-returns-in-Some-Lambda t c = body_lists (body_placed c.in-Some-Lambda.field-0-is c.in-Some-Lambda.ensures) c.lambda_needs.ensures
 
-pub body_needs-returns-in_default : goal.body_needs-returns-in_default
-body_needs-returns-in_default t c = skip_lists c.body_mark-k.ensures (search rules) c.skip.ensures (omega arith)
+pub body_needs-returns-in-Some-Mod : goal.body_needs-returns-in-Some-Mod
+body_needs-returns-in-Some-Mod t c = skip_lists (search rules) c.skip.ensures (omega arith)
 
 pub call_needs-returns-then-t-eq0 : goal.call_needs-returns-then-t-eq0
 call_needs-returns-then-t-eq0 t c = call_reaches c.call_view-v.ensures c.times-e.ensures c.tagged_view-t.ensures c.if-t-eq0.true
@@ -72,11 +73,11 @@ member_needs-returns-then-binding t c = rw c.if-binding.true c.binding_needs.ens
 pub member_needs-returns-else-binding : goal.member_needs-returns-else-binding
 member_needs-returns-else-binding t c = rw c.if-binding.false (lists_reaches c.body_needs.ensures)
 
-pub times-loop-i-init : goal.times-loop-i-init
-times-loop-i-init t c = (omega arith, omega arith, refl, goes_first (omega arith))
+pub times-loop-init : goal.times-loop-init
+times-loop-init t c = (omega arith, omega arith, refl, goes_first (omega arith))
 
-pub times-loop-i-preserved : goal.times-loop-i-preserved
-times-loop-i-preserved t c = (omega arith, omega arith, omega arith, goes_more (omega arith) c.child-r.ensures c.loop-i.invariant.2 c.loop-i.invariant.3)
+pub times-loop-preserved : goal.times-loop-preserved
+times-loop-preserved t c = (omega arith, omega arith, omega arith, goes_more (omega arith) c.child-r.ensures c.loop.invariant.2 c.loop.invariant.3)
 
 pub times-returns : goal.times-returns
-times-returns t c = goes_end (omega arith) c.loop-i.invariant.0 c.loop-i.invariant.1 c.loop-i.invariant.3
+times-returns t c = goes_end (omega arith) c.loop.invariant.0 c.loop.invariant.1 c.loop.invariant.3

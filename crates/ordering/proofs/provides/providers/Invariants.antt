@@ -4,6 +4,3 @@ use Rattle.ordering.proofs.provides.providers.Given as goal
 
 abbrev pub invariant-loop-k : goal.invariant-loop-k
 invariant-loop-k l = From l.a l.name l.given l.bits l.found l.k
-
-abbrev pub decreases-loop-k : goal.decreases-loop-k
-decreases-loop-k l = l.k

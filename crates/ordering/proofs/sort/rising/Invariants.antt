@@ -1,11 +1,8 @@
 -- `ordering::sort::rising` meets its contract. The invariant: each index below `i` stands at its place.
 use mathlib.Core.Path.{◌≡◌}
-use Prim.Native.Nat.{ℕ, ◌-◌, ◌≤◌, ◌<◌}
+use Prim.Native.Nat.{ℕ, ◌<◌}
 use lib.ListN.{length, get_or}
 use Rattle.ordering.proofs.sort.rising.Given as goal
 
 abbrev pub invariant-loop-i : goal.invariant-loop-i
-invariant-loop-i l = (l.i ≤ length l.row) × (length l.row ≡ length l.initial.row) × ((k : ℕ) → k < l.i → get_or l.row k 0 ≡ k)
-
-abbrev pub decreases-loop-i : goal.decreases-loop-i
-decreases-loop-i l = length l.initial.row - l.i
+invariant-loop-i l = (length l.row ≡ length l.initial.row) × ((k : ℕ) → k < l.i → get_or l.row k 0 ≡ k)

@@ -12,14 +12,8 @@ use Rattle.ordering.proofs.sort.turn.Given as goal
 
 abbrev pub invariant-loop-k : goal.invariant-loop-k
 invariant-loop-k l =
-    (l.p ≡ l.initial.p) × (l.i < length l.row) × (get_or l.starts l.i 0 ≤ l.k) × (l.end ≤ length l.needs)
+    (l.p ≡ l.initial.p) × (l.i < length l.row) × (get_or l.starts l.i 0 ≤ l.k) × (l.k-end ≤ length l.needs)
     × ((bs : List Item) → TurnStart bs l.needs l.starts l.row l.placed l.done → ready bs (take l.placed l.row) l.i ≡ met_from bs (take l.placed l.row) l.i (l.k - get_or l.starts l.i 0))
-
-abbrev pub decreases-loop-k : goal.decreases-loop-k
-decreases-loop-k l = length l.needs - l.k
 
 abbrev pub invariant-positions : goal.invariant-positions
 invariant-positions l = Passed l.needs l.starts l.initial.row l.placed l.done l.row l.left l.p
-
-abbrev pub decreases-positions : goal.decreases-positions
-decreases-positions l = length l.row - l.p

@@ -48,22 +48,22 @@ field-returns-in_default t c =
     let d = c.in_default in
     plain_indexes c.args.f (plain c.args.f d.not-Record d.not-Pattern d.not-Tail d.not-Several) c.requires c.past_field.ensures
 
-pub fields-loop-i-init : goal.fields-loop-i-init
-fields-loop-i-init t c =
+pub fields-loop-f-init : goal.fields-loop-f-init
+fields-loop-f-init t c =
     let (len, b) = c.requires in
-    (omega arith, len, b, goes_nowhere b, reached_none b)
+    (len, b, goes_nowhere b, reached_none b)
 
-pub fields-loop-i-preserved : goal.fields-loop-i-preserved
-fields-loop-i-preserved t c =
-    let inv = c.loop-i.invariant in
+pub fields-loop-f-preserved : goal.fields-loop-f-preserved
+fields-loop-f-preserved t c =
+    let inv = c.loop-f.invariant in
     let told = c.field-c.ensures in
-    let next = row_at c.args.row c.loop-i.i (omega (arith, inv.1, c.loop-i-test.true)) in
-    (omega arith, inv.1, begun_on inv.2 told.goes, goes_then inv.3 told.goes, λ p v h. reached_field next (inv.4 p v h) told)
+    let next = row_at c.args.row c.loop-f.f-index (omega (arith, inv.0)) in
+    (inv.0, begun_on inv.1 told.goes, goes_then inv.2 told.goes, λ p v h. reached_field next (inv.3 p v h) told)
 
 pub fields-returns : goal.fields-returns
 fields-returns t c =
-    let inv = c.loop-i.invariant in
-    fields_indexes c.args.row c.loop-i.i (omega (arith, inv.1, c.loop-i-test.false)) inv.3 inv.4
+    let inv = c.loop-f.invariant in
+    fields_indexes c.args.row c.loop-f.f-index (omega (arith, inv.0)) inv.2 inv.3
 
 pub index-returns-then-s-lt-MARK_WIDTH : goal.index-returns-then-s-lt-MARK_WIDTH
 index-returns-then-s-lt-MARK_WIDTH t c = short_indexes c.if-s-lt-MARK_WIDTH.true
@@ -82,21 +82,21 @@ pattern-returns-then-byte_at-eq0 t c = name_indexes c.requires c.byte_at.ensures
 pub pattern-returns : goal.pattern-returns
 pattern-returns t c = complex_indexes c.requires c.byte_at.ensures c.past_bytes-next.ensures.past c.if-byte_at-eq0.false c.child.ensures
 
-pub several-loop-i-init : goal.several-loop-i-init
-several-loop-i-init t c =
+pub several-loop-init : goal.several-loop-init
+several-loop-init t c =
     let b = begun_after_tag c.requires c.byte_at-n.ensures c.past_bytes.ensures.past in
-    (omega arith, b, goes_nowhere b, reached_none b)
+    (b, goes_nowhere b, reached_none b)
 
-pub several-loop-i-preserved : goal.several-loop-i-preserved
-several-loop-i-preserved t c =
-    let inv = c.loop-i.invariant in
+pub several-loop-preserved : goal.several-loop-preserved
+several-loop-preserved t c =
+    let inv = c.loop.invariant in
     let told = c.child-d.ensures in
-    (omega arith, begun_on inv.1 told.goes, goes_then inv.2 told.goes, λ p v h. reached_record (inv.3 p v h) c.loop-i-test.true told)
+    (begun_on inv.0 told.goes, goes_then inv.1 told.goes, λ p v h. reached_record (inv.2 p v h) (omega arith) told)
 
 pub several-returns : goal.several-returns
 several-returns t c =
-    let inv = c.loop-i.invariant in
-    several_indexes c.requires c.byte_at-n.ensures c.past_bytes.ensures.past c.loop-i-test.false inv.2 inv.3
+    let inv = c.loop.invariant in
+    several_indexes c.requires c.byte_at-n.ensures c.past_bytes.ensures.past (omega arith) inv.1 inv.2
 
 pub tail-returns-then-byte_at-eq0 : goal.tail-returns-then-byte_at-eq0
 tail-returns-then-byte_at-eq0 t c = no_tail_indexes c.requires c.byte_at.ensures c.past_bytes.ensures.past c.if-byte_at-eq0.true

@@ -1,6 +1,6 @@
 -- `crate::index`: every member of the cycle meets its contract. What falls is the length of the bytes: a child starts behind a mark. Assumes nothing.
 use mathlib.Core.Path.{◌≡◌}
-use Prim.Native.Nat.{◌+◌, ◌*◌, ◌-◌, ◌≤◌}
+use Prim.Native.Nat.{◌+◌, ◌*◌}
 use lib.ListN.{length, drop}
 use Rattle.names.specs.Segments.{At}
 use Rattle.outline.specs.Outline.{Pieces, pieces_bytes}
@@ -29,17 +29,11 @@ decreases-several l = 5 * length l.s.now + 1
 abbrev pub decreases-tail : goal.decreases-tail
 decreases-tail l = 5 * length l.s.now + 1
 
-abbrev pub invariant-fields-loop-i : goal.invariant-fields-loop-i
-invariant-fields-loop-i l =
-    (l.i ≤ most_fields) × (length l.row ≡ most_fields) × Begun l.s l.mem l.a l.c × GoesOn l.s l.initial.mem l.mem l.initial.c l.c
-    × ((p : Pieces) → FieldsAre l.row p → At l.s l.initial.c.end (pieces_bytes p) → Reached (FieldsAre (drop l.i l.row)) l.s l.mem l.a l.initial.c l.c p)
+abbrev pub invariant-fields-loop-f : goal.invariant-fields-loop-f
+invariant-fields-loop-f l =
+    (length l.f-items ≡ most_fields) × Begun l.s l.mem l.a l.c × GoesOn l.s l.initial.mem l.mem l.initial.c l.c
+    × ((p : Pieces) → FieldsAre l.f-items p → At l.s l.initial.c.end (pieces_bytes p) → Reached (FieldsAre (drop l.f-index l.f-items)) l.s l.mem l.a l.initial.c l.c p)
 
-abbrev pub decreases-fields-loop-i : goal.decreases-fields-loop-i
-decreases-fields-loop-i l = most_fields - l.i
-
-abbrev pub invariant-several-loop-i : goal.invariant-several-loop-i
-invariant-several-loop-i l =
-    (l.i ≤ l.n) × Begun l.s l.mem l.a l.d × GoesOn l.s l.initial.mem l.mem l.initial.d l.d × ((p : Pieces) → Many 0 l.n p → At l.s l.initial.d.end (pieces_bytes p) → Reached (Many l.i l.n) l.s l.mem l.a l.initial.d l.d p)
-
-abbrev pub decreases-several-loop-i : goal.decreases-several-loop-i
-decreases-several-loop-i l = l.n - l.i
+abbrev pub invariant-several-loop : goal.invariant-several-loop
+invariant-several-loop l =
+    Begun l.s l.mem l.a l.d × GoesOn l.s l.initial.mem l.mem l.initial.d l.d × ((p : Pieces) → Many 0 l.n p → At l.s l.initial.d.end (pieces_bytes p) → Reached (Many l.counter l.n) l.s l.mem l.a l.initial.d l.d p)

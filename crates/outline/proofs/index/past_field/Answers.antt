@@ -38,7 +38,7 @@ pub returns-in-Hint : goal.returns-in-Hint
 returns-in-Hint c = rw c.in-Hint.is (hint_field_past c.past_hint.ensures)
 
 pub returns-in-Number : goal.returns-in-Number
-returns-in-Number c = rw c.in-Number.is (number_field_past c.integer_view-v.ensures)
+returns-in-Number c = rw c.in-Number.is (number_field_past c.integer_view.ensures)
 
 pub returns-in-Name : goal.returns-in-Name
 returns-in-Name c = rw c.in-Name.is (name_field_past c.past_name.ensures)

@@ -31,7 +31,7 @@ start c = c.before.before.before.before
 
 -- the buffer keeps its length
 size : (c : At-loop) → length c.loop-k.out ≡ length (start c).args.out.now
-size c = let p = (start c).requires in (c.loop-k.invariant.1 p.form p.indexed).frame.size
+size c = let p = (start c).requires in (c.loop-k.invariant p.form p.indexed).frame.size
 
 -- it has room for one more line
 room : (c : In-loop) → (line_width + 1) * c.loop-k.k + (line_width + 1) ≤ length c.loop-k.out
@@ -39,22 +39,22 @@ room c = omega (arith, size c.before, (start c.before).requires.room)
 
 -- the record of the entry, in whatever form was indexed
 turn : (c : After-entry_at) (f : Form) → let l = c.before.before in let a = (start l).args in Indexed a.input.now a.entries.now a.n f
-    → EntryRecord a.input.now f l.loop-k.k c.entry_at-e.result
-turn c f i = record_at i (start c.before.before).requires.short c.loop-k-test.true c.entry_at-e.ensures
+    → EntryRecord a.input.now f l.loop-k.k c.entry_at.result
+turn c f i = record_at i (start c.before.before).requires.short c.loop-k-test.true c.entry_at.ensures
 
 -- in the form that is given
-given : (c : After-entry_at) → let s = start c.before.before in EntryRecord s.args.input.now s.requires.form c.loop-k.k c.entry_at-e.result
+given : (c : After-entry_at) → let s = start c.before.before in EntryRecord s.args.input.now s.requires.form c.loop-k.k c.entry_at.result
 given c = let p = (start c.before.before).requires in turn c p.form p.indexed
 
 -- its mark stands in the input
-inside : (c : After-entry_at) → c.entry_at-e.result.around.offset ≤ length (start c.before.before).args.input.now
+inside : (c : After-entry_at) → c.entry_at.result.around.offset ≤ length (start c.before.before).args.input.now
 inside c = omega (arith, (given c).stands.there.fits)
 
 pub loop-k-init : goal.loop-k-init
-loop-k-init c = (omega arith, λ f i. filled_none)
+loop-k-init c = λ f i. filled_none
 
-pub entry_at-e-requires : goal.entry_at-e-requires
-entry_at-e-requires c = omega (arith, index_fits (start c.before.before).requires.indexed)
+pub entry_at-requires : goal.entry_at-requires
+entry_at-requires c = omega (arith, index_fits (start c.before.before).requires.indexed)
 
 pub overflow_mul-line : goal.overflow_mul-line
 overflow_mul-line c = omega (arith, room c.before.before.before)
@@ -89,7 +89,7 @@ loop-k-preserved c =
     let argued = written.before.before in
     let e = argued.before.before in
     let l = e.before.before in
-    (omega arith, λ f i. record_written (turn e f i) (l.loop-k.invariant.1 f i) (room e.before) written.put_line.ensures)
+    λ f i. record_written (turn e f i) (l.loop-k.invariant f i) (room e.before) written.put_line.ensures
 
 pub shape_of-out : goal.shape_of-out
 shape_of-out c = size c.before.before
@@ -98,4 +98,4 @@ pub returns : goal.returns
 returns c f i =
     let l = c.before.before in
     let e : l.loop-k.k ≡ (start l).args.n = omega arith in
-    page_whole i (rw e at (l.loop-k.invariant.1 f i))
+    page_whole i (rw e at (l.loop-k.invariant f i))

@@ -28,10 +28,10 @@ start c = c.before.before.before
 all-drawn : (c : After-loop) → let l = c.before in let a = (start l.before).args in Filled a.out.now l.loop-i.out 0 (drawn_line a.s.now a.depth l.label-name.result) line_width
 all-drawn c =
     let e : c.loop-i.i ≡ line_width = omega arith in
-    rw e at c.loop-i.invariant.1
+    rw e at c.loop-i.invariant
 
 pub loop-i-init : goal.loop-i-init
-loop-i-init c = (omega arith, filled_none)
+loop-i-init c = filled_none
 
 pub character-requires : goal.character-requires
 character-requires c =
@@ -43,21 +43,21 @@ character-requires c =
 pub bounds-out-i : goal.bounds-out-i
 bounds-out-i c =
     let at-loop = c.before.before.before in
-    omega (arith, at-loop.loop-i.invariant.1.frame.size, (start at-loop.before).requires.room)
+    omega (arith, at-loop.loop-i.invariant.frame.size, (start at-loop.before).requires.room)
 
 pub loop-i-preserved : goal.loop-i-preserved
 loop-i-preserved c =
     let at-loop = c.before.before.before in
     let a = (start at-loop.before).args in
-    (omega arith, drawn_more a.s.now a.depth at-loop.label-name.result at-loop.loop-i.invariant.1 (start at-loop.before).requires.room c.loop-i-test.true c.character.ensures)
+    drawn_more a.s.now a.depth at-loop.label-name.result at-loop.loop-i.invariant (start at-loop.before).requires.room c.loop-i-test.true c.character.ensures
 
 pub bounds-out-72 : goal.bounds-out-72
 bounds-out-72 c =
     let at-loop = c.before.before in
-    omega (arith, at-loop.loop-i.invariant.1.frame.size, (start at-loop.before).requires.room)
+    omega (arith, at-loop.loop-i.invariant.frame.size, (start at-loop.before).requires.room)
 
 pub shape_of-out : goal.shape_of-out
-shape_of-out c = simp length-set c.loop-i.invariant.1.frame.size
+shape_of-out c = simp length-set c.loop-i.invariant.frame.size
 
 pub returns : goal.returns
 returns c =

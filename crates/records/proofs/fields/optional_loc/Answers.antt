@@ -1,40 +1,23 @@
 -- `records::fields::optional_loc` meets its contract. Assumes nothing.
 use mathlib.Core.Path.{refl}
-use Rattle.records.specs.ReadFields.{malformed, fault_number}
+use Rattle.records.specs.ReadFields.{malformed, fault_number, optional_loc}
 use Rattle.records.proofs.Exact.{exact_up_to}
-use Rattle.records.proofs.FieldLaws.{byte_there, optional_stop, optional_absent, optional_present}
+use Rattle.records.proofs.Scans.{reads_stop}
+use Rattle.records.proofs.FieldLaws.{byte_there, optional_absent, optional_present}
 use Rattle.records.proofs.fields.optional_loc.Goals as goal
 
-pub returns-then-d-ne0 : goal.returns-then-d-ne0
-unfolding fault_number
-returns-then-d-ne0 c =
-    let at-at-most = c.before.before.before in
-    let at-start = at-at-most.before.before in
-    optional_stop _ _ at-start.requires (at-at-most.at_most-d.ensures.reads malformed refl) c.if-d-ne0.true
+pub returns-in_err-d : goal.returns-in_err-d
+unfolding fault_number optional_loc
+returns-in_err-d c = reads_stop _ (c.in_err-d.ensures.reads malformed refl) c.from_residual.ensures.1
 
-pub bounds-s-at : goal.bounds-s-at
+pub bounds-s-c : goal.bounds-s-c
 unfolding fault_number
-bounds-s-at c =
-    let at-if1 = c.before.before in
-    let at-at-most = at-if1.before.before in
-    let at-start = at-at-most.before.before in
-    byte_there (exact_up_to _) at-start.requires (at-at-most.at_most-d.ensures.reads malformed refl) at-if1.if-d-ne0.false
+bounds-s-c c = byte_there (exact_up_to _) c.requires (c.in_ok-d.ensures.reads malformed refl)
 
-pub returns-then-s-at : goal.returns-then-s-at
+pub returns-then-s-c : goal.returns-then-s-c
 unfolding fault_number
-returns-then-s-at c =
-    let at-if1 = c.before.before.before in
-    let at-at-most = at-if1.before.before in
-    let at-start = at-at-most.before.before in
-    optional_absent _ _ at-start.requires (at-at-most.at_most-d.ensures.reads malformed refl)
-    at-if1.if-d-ne0.false c.if-s-at.true
+returns-then-s-c c = optional_absent _ c.requires (c.in_ok-d.ensures.reads malformed refl) c.if-s-c.true
 
 pub returns : goal.returns
 unfolding fault_number
-returns c =
-    let at-if2 = c.before.before in
-    let at-if1 = at-if2.before.before in
-    let at-at-most = at-if1.before.before in
-    let at-start = at-at-most.before.before in
-    optional_present _ _ at-start.requires (at-at-most.at_most-d.ensures.reads malformed refl)
-    at-if1.if-d-ne0.false at-if2.if-s-at.false c.loc.ensures
+returns c = optional_present _ c.requires (c.in_ok-d.ensures.reads malformed refl) c.if-s-c.false c.loc.ensures

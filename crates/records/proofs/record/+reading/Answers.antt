@@ -1,274 +1,339 @@
--- The reader of B, BB, H and CF records meets its contracts: what falls is in Base, and what each function needs in a file of its own. What stays is that
--- a reading is within the bytes and comes to where the definition of reading comes. Assumes nothing.
-mod Base
-mod NeedsBinding
-mod NeedsBody
-mod NeedsChild
-mod NeedsForm
-mod NeedsHelper
-mod NeedsKinds
-mod NeedsLambda
-mod NeedsLetAfter
-mod NeedsLetForm
-mod NeedsMany
-mod NeedsTail
-mod NeedsTimes
+-- The reader of B, BB, H and CF records meets its contracts: each function by one law, for the refusals that it hands on and for what it reads. Assumes nothing.
 use borrow.Author.Rules.{rules}
-use Rattle.records.proofs.record.binding.Reads as binding
-use Rattle.records.proofs.record.+reading.Lts-binding as binding-lts
-use Rattle.records.proofs.record.body.Reads as body
-use Rattle.records.proofs.record.+reading.Lts-body as body-lts
-use Rattle.records.proofs.record.call.Reads as call
-use Rattle.records.proofs.record.+reading.Lts-call as call-lts
-use Rattle.records.proofs.record.child.Reads as child
-use Rattle.records.proofs.record.+reading.Lts-child as child-lts
-use Rattle.records.proofs.record.constant.Reads as constant
-use Rattle.records.proofs.record.+reading.Lts-constant as constant-lts
-use Rattle.records.proofs.record.form.Reads as form
-use Rattle.records.proofs.record.+reading.Lts-form as form-lts
-use Rattle.records.proofs.record.function.Reads as function
-use Rattle.records.proofs.record.+reading.Lts-function as function-lts
-use Rattle.records.proofs.record.helper.Reads as helper
-use Rattle.records.proofs.record.+reading.Lts-helper as helper-lts
-use Rattle.records.proofs.record.lambda.Reads as lambda
-use Rattle.records.proofs.record.+reading.Lts-lambda as lambda-lts
-use Rattle.records.proofs.record.let_after.Reads as let_after
-use Rattle.records.proofs.record.+reading.Lts-let_after as let-after-lts
-use Rattle.records.proofs.record.let_form.Reads as let-form
-use Rattle.records.proofs.record.+reading.Lts-let_form as let-form-lts
-use Rattle.records.proofs.record.macro_form.Reads as macro-form
-use Rattle.records.proofs.record.+reading.Lts-macro_form as macro-form-lts
-use Rattle.records.proofs.record.many.Reads as many
-use Rattle.records.proofs.record.+reading.Lts-many as many-lts
-use Rattle.records.proofs.record.mod_form.Reads as mod-form
-use Rattle.records.proofs.record.+reading.Lts-mod_form as mod-form-lts
-use Rattle.records.proofs.record.namespace.Reads as namespace
-use Rattle.records.proofs.record.+reading.Lts-namespace as namespace-lts
-use Rattle.records.proofs.record.read_record.Reads as read-record
-use Rattle.records.proofs.record.+reading.Lts-read_record as read-record-lts
-use Rattle.records.proofs.record.tail.Reads as tail
-use Rattle.records.proofs.record.+reading.Lts-tail as tail-lts
-use Rattle.records.proofs.record.times.Reads as times
-use Rattle.records.proofs.record.+reading.Lts-times as times-lts
-use Rattle.records.proofs.record.+reading.Answers.Base.{binding-calls, body-calls, call-calls, child-calls, constant-calls, form-calls, function-calls, helper-calls, lambda-calls, let-after-calls, let-form-calls, macro-form-calls, many-calls, mod-form-calls, namespace-calls, read-record-calls, tail-calls, times-calls}
-use Rattle.records.proofs.record.+reading.Answers.NeedsBinding as binding-needs
-use Rattle.records.proofs.record.+reading.Answers.NeedsBody as body-needs
-use Rattle.records.proofs.record.+reading.Answers.NeedsChild as child-needs
-use Rattle.records.proofs.record.+reading.Answers.NeedsForm as form-needs
-use Rattle.records.proofs.record.+reading.Answers.NeedsHelper as helper-needs
-use Rattle.records.proofs.record.+reading.Answers.NeedsKinds as kinds-needs
-use Rattle.records.proofs.record.+reading.Answers.NeedsLambda as lambda-needs
-use Rattle.records.proofs.record.+reading.Answers.NeedsLetAfter as let-after-needs
-use Rattle.records.proofs.record.+reading.Answers.NeedsLetForm as let-form-needs
-use Rattle.records.proofs.record.+reading.Answers.NeedsMany as many-needs
-use Rattle.records.proofs.record.+reading.Answers.NeedsTail as tail_needs
-use Rattle.records.proofs.record.+reading.Answers.NeedsTimes as times-needs
+use mathlib.Core.Path.{refl, sym, ◌∙◌}
+use native.Mathlib.Omega.{arith}
+use Rattle.names.specs.Names.{ascii, same}
+use Rattle.records.specs.declared.Family.TheVariants.{Body as a_Body, Binding as a_binding, Helper as a_helper, Form as a_form}
+use Rattle.records.specs.Read.{let_after, call_after, mod_after, constant_after, macro_after, function_after, namespace_after, reference_after}
+use Rattle.records.specs.ReadFields.{malformed, fault_number, choose}
+use Rattle.records.specs.Scan.{lambda_within}
+use Rattle.records.proofs.Exact.{exact_up_to, exact_count}
+use Rattle.records.proofs.Scans.{same_err}
+use Rattle.records.proofs.FieldLaws.{byte_there}
+use Rattle.records.proofs.Chains.{past, stop}
+use Rattle.records.proofs.Goes.{goes_child, goes_many, loop_last, loop_more, goes_reads}
+use Rattle.records.proofs.Marks.{body_placed, no_body, helper_placed, no_helper}
+use Rattle.records.proofs.BodyLaws.{goes_unread, body_kind, body_sexp, body_unknown, body_deep, helper_kind, helper_unknown, helper_deep, form_kind, form_deep, form_unknown, binding_kind, binding_unknown}
+use Rattle.records.proofs.KindLaws.{goes_call, tail_none, tail_there, goes_mod, goes_lambda, goes_no_lambda, goes_binding, goes_constant, goes_macro, goes_function, goes_namespace, goes_form, goes_let, goes_let_of, too_deep, levels}
 use Rattle.records.proofs.record.+reading.Goals as goal
-use mathlib.Core.List.{[]}
+
+pub binding-returns-in_err-d : goal.binding-returns-in_err-d
+binding-returns-in_err-d t c = goes_unread a_binding c.requires.at_value c.in_err-d.ensures c.from_residual.ensures.1
 
 pub binding-returns-then-not-is_word : goal.binding-returns-then-not-is_word
-binding-returns-then-not-is_word t c = binding-needs.returns t c.before
+unfolding ascii
+binding-returns-then-not-is_word t c = binding_unknown c.requires.at_value c.in_ok-d.ensures (sym c.is_word.ensures ∙ c.if-not-is_word.true) c.refused.ensures
+
+pub binding-returns-in_err-loc : goal.binding-returns-in_err-loc
+unfolding ascii
+binding-returns-in_err-loc t c =
+    binding_kind c.requires.at_value c.in_ok-d.ensures (sym c.is_word.ensures ∙ c.if-not-is_word.false) (goes_binding c.in_ok-d.ensures.within (stop c.in_err-loc.ensures c.from_residual-in_err-loc.ensures.1))
+
+pub binding-returns-in_err-e : goal.binding-returns-in_err-e
+unfolding ascii
+binding-returns-in_err-e t c =
+    binding_kind c.requires.at_value c.in_ok-d.ensures (sym c.is_word.ensures ∙ c.if-not-is_word.false) (goes_binding c.in_ok-d.ensures.within (past c.in_ok-loc.ensures (stop c.in_err-e.ensures c.from_residual-in_err-e.ensures.1)))
+
+pub binding-returns-in_err-p : goal.binding-returns-in_err-p
+unfolding ascii
+binding-returns-in_err-p t c =
+    binding_kind c.requires.at_value c.in_ok-d.ensures (sym c.is_word.ensures ∙ c.if-not-is_word.false) (goes_binding c.in_ok-d.ensures.within (past c.in_ok-loc.ensures (past c.in_ok-e.ensures (stop c.in_err-p.ensures c.from_residual-in_err-p.ensures.1))))
 
 pub binding-returns : goal.binding-returns
-binding-returns t c = binding-needs.returns-2 t c.before
+unfolding ascii
+binding-returns t c =
+    binding_kind c.requires.at_value c.in_ok-d.ensures (sym c.is_word.ensures ∙ c.if-not-is_word.false) (goes_binding c.in_ok-d.ensures.within (past c.in_ok-loc.ensures (past c.in_ok-e.ensures (past c.in_ok-p.ensures c.child.ensures))))
 
-pub body-returns-then-k-eq-NO_BODY_MARK : goal.body-returns-then-k-eq-NO_BODY_MARK
-body-returns-then-k-eq-NO_BODY_MARK t c = body-needs.returns t c.before
-
-pub body-returns-then-x-eq0 : goal.body-returns-then-x-eq0
-body-returns-then-x-eq0 t c = body-needs.returns-2 t c.before
-
-pub body-let_form-requires : goal.body-let_form-requires
-body-let_form-requires t c = body-needs.let-form-requires t c.before ([], tt)
-
-pub body-call-requires : goal.body-call-requires
-body-call-requires t c = body-needs.call-requires t c.before ([], tt)
-
-pub body-mod_form-requires : goal.body-mod_form-requires
-body-mod_form-requires t c = body-needs.mod-form-requires t c.before ([], tt)
-
-pub body-lambda-requires : goal.body-lambda-requires
-body-lambda-requires t c = body-needs.lambda-requires t c.before ([], tt)
-
-pub body-returns-in-0 : goal.body-returns-in-0
-body-returns-in-0 t c = body-needs.returns-3 t c.before
-
-pub body-returns-in-1 : goal.body-returns-in-1
-body-returns-in-1 t c = body-needs.returns-4 t c.before
-
-pub body-returns-in-2 : goal.body-returns-in-2
-body-returns-in-2 t c = body-needs.returns-5 t c.before
-
-pub body-returns-in-3 : goal.body-returns-in-3
-body-returns-in-3 t c = body-needs.returns-6 t c.before
-
-pub body-returns-in-4 : goal.body-returns-in-4
-body-returns-in-4 t c = body-needs.returns-7 t c.before
+pub body-returns-in_err-d : goal.body-returns-in_err-d
+body-returns-in_err-d t c = goes_unread a_Body c.requires.at_value c.in_err-d.ensures c.from_residual.ensures.1
 
 pub body-returns-in_default : goal.body-returns-in_default
-body-returns-in_default t c = body-needs.returns-8 t c.before
+body-returns-in_default t c = body_unknown c.requires.at_value c.in_ok-d.ensures (no_body _ c.in_default.ensures) c.refused.ensures
+
+pub body-returns-then-x-eq0 : goal.body-returns-then-x-eq0
+body-returns-then-x-eq0 t c = body_deep c.requires.at_value c.in_ok-d.ensures c.if-x-eq0.true c.in-Some.ensures c.refused-then-x-eq0.ensures
+
+pub body-returns-in-Let : goal.body-returns-in-Let
+unfolding choose same ascii
+body-returns-in-Let t c =
+    body_kind c.requires.at_value c.in_ok-d.ensures 0 let_after (λ _. refl) (body_placed c.in-Let.is c.in-Some.ensures) (omega arith) c.if-x-eq0.false (rw c.down-y.ensures at c.let_form.ensures)
+
+pub body-returns-in-Call : goal.body-returns-in-Call
+unfolding choose same ascii
+body-returns-in-Call t c =
+    body_kind c.requires.at_value c.in_ok-d.ensures 3 call_after (λ _. refl) (body_placed c.in-Call.is c.in-Some.ensures) (omega arith) c.if-x-eq0.false (rw c.down-y.ensures at c.call.ensures)
+
+pub body-returns-in-Mod : goal.body-returns-in-Mod
+unfolding choose same ascii
+body-returns-in-Mod t c =
+    body_kind c.requires.at_value c.in_ok-d.ensures 4 mod_after (λ _. refl) (body_placed c.in-Mod.is c.in-Some.ensures) (omega arith) c.if-x-eq0.false (rw c.down-y.ensures at c.mod_form.ensures)
+
+pub body-returns-in-Lambda : goal.body-returns-in-Lambda
+unfolding choose same ascii
+body-returns-in-Lambda t c =
+    body_kind c.requires.at_value c.in_ok-d.ensures 5 lambda_within (λ _. refl) (body_placed c.in-Lambda.is c.in-Some.ensures) (omega arith) c.if-x-eq0.false (rw c.down-y.ensures at c.lambda.ensures)
+
+pub body-returns-in-Quoted : goal.body-returns-in-Quoted
+body-returns-in-Quoted t c = body_sexp c.requires.at_value c.in_ok-d.ensures (search rules) c.if-x-eq0.false c.child_sexp.ensures
+
+pub call-returns-in_err-loc : goal.call-returns-in_err-loc
+call-returns-in_err-loc t c = goes_call c.requires.at_in_bounds (stop c.in_err-loc.ensures c.from_residual.ensures.1)
+
+pub call-returns-in_err-e : goal.call-returns-in_err-e
+call-returns-in_err-e t c = goes_call c.requires.at_in_bounds (past c.in_ok-loc.ensures (stop c.in_err-e.ensures c.from_residual-in_err-e.ensures.1))
 
 pub call-returns : goal.call-returns
-call-returns t c = kinds-needs.call_returns t c.before
+call-returns t c = goes_call c.requires.at_in_bounds (past c.in_ok-loc.ensures (past c.in_ok-e.ensures c.tail.ensures))
 
-pub child-returns-then-c-ne0 : goal.child-returns-then-c-ne0
-child-returns-then-c-ne0 t c = child-needs.child-returns t c.before
+pub child-returns-in_err-r : goal.child-returns-in_err-r
+child-returns-in_err-r t c = rw (same_err c.from_residual.ensures.1) (goes_child _ _ _ c.requires.at_in_bounds c.in_err-r.ensures)
 
 pub child-returns : goal.child-returns
-child-returns t c = child-needs.child-returns-2 t c.before
+child-returns t c = goes_child _ _ _ c.requires.at_in_bounds c.in_ok-r.ensures
+
+pub constant-returns-in_err-loc : goal.constant-returns-in_err-loc
+constant-returns-in_err-loc t c = goes_constant c.requires.at_in_bounds (stop c.in_err-loc.ensures c.from_residual.ensures.1)
+
+pub constant-returns-in_err-n : goal.constant-returns-in_err-n
+constant-returns-in_err-n t c = goes_constant c.requires.at_in_bounds (past c.in_ok-loc.ensures (stop c.in_err-n.ensures c.from_residual-in_err-n.ensures.1))
+
+pub constant-returns-in_err-raw : goal.constant-returns-in_err-raw
+constant-returns-in_err-raw t c =
+    goes_constant c.requires.at_in_bounds (past c.in_ok-loc.ensures (past c.in_ok-n.ensures (stop c.in_err-raw.ensures c.from_residual-in_err-raw.ensures.1)))
 
 pub constant-returns : goal.constant-returns
-constant-returns t c = kinds-needs.constant-returns t c.before
+constant-returns t c = goes_constant c.requires.at_in_bounds (past c.in_ok-loc.ensures (past c.in_ok-n.ensures (past c.in_ok-raw.ensures c.child.ensures)))
+
+pub form-returns-in_err-d : goal.form-returns-in_err-d
+form-returns-in_err-d t c = goes_unread a_form c.requires.at_value c.in_err-d.ensures c.from_residual.ensures.1
 
 pub form-returns-then-not-is_word : goal.form-returns-then-not-is_word
-form-returns-then-not-is_word t c = form-needs.returns t c.before
+unfolding ascii
+form-returns-then-not-is_word t c = form_unknown c.requires.at_value c.in_ok-d.ensures (sym c.is_word.ensures ∙ c.if-not-is_word.true) c.refused.ensures
 
 pub form-returns-then-x-eq0 : goal.form-returns-then-x-eq0
-form-returns-then-x-eq0 t c = form-needs.returns-2 t c.before
+unfolding ascii
+form-returns-then-x-eq0 t c = form_deep c.requires.at_value c.in_ok-d.ensures c.if-x-eq0.true (sym c.is_word.ensures ∙ c.if-not-is_word.false) c.refused-then-x-eq0.ensures
 
-pub form-child_sexp-a-requires : goal.form-child_sexp-a-requires
-form-child_sexp-a-requires t c = record { at_in_bounds = (form-needs.child-sexp-requires t c.before ([], tt)).0; s_bound = (form-needs.child-sexp-requires t c.before ([], tt)).1 }
+pub form-returns-in_err-loc : goal.form-returns-in_err-loc
+unfolding ascii
+form-returns-in_err-loc t c =
+    form_kind c.requires.at_value c.in_ok-d.ensures (sym c.is_word.ensures ∙ c.if-not-is_word.false) c.if-x-eq0.false (goes_form c.in_ok-d.ensures.within (stop c.in_err-loc.ensures c.from_residual-in_err-loc.ensures.1))
 
-pub form-many-h-requires : goal.form-many-h-requires
-form-many-h-requires t c = form-needs.many-requires t c.before ([], tt)
+pub form-returns-in_err-r : goal.form-returns-in_err-r
+unfolding ascii
+form-returns-in_err-r t c =
+    form_kind c.requires.at_value c.in_ok-d.ensures (sym c.is_word.ensures ∙ c.if-not-is_word.false) c.if-x-eq0.false (goes_form c.in_ok-d.ensures.within (past c.in_ok-loc.ensures (stop c.in_err-r.ensures c.from_residual-in_err-r.ensures.1)))
 
-pub form-child-requires : goal.form-child-requires
-form-child-requires t c = form-needs.child-requires t c.before ([], tt)
+pub form-returns-in_err-a : goal.form-returns-in_err-a
+unfolding ascii
+form-returns-in_err-a t c =
+    form_kind c.requires.at_value c.in_ok-d.ensures (sym c.is_word.ensures ∙ c.if-not-is_word.false) c.if-x-eq0.false (goes_form c.in_ok-d.ensures.within (past c.in_ok-loc.ensures (past c.in_ok-r.ensures (stop c.in_err-a.ensures c.from_residual-in_err-a.ensures.1))))
+
+pub form-returns-in_err-h : goal.form-returns-in_err-h
+unfolding ascii
+form-returns-in_err-h t c =
+    form_kind c.requires.at_value c.in_ok-d.ensures (sym c.is_word.ensures ∙ c.if-not-is_word.false) c.if-x-eq0.false (goes_form c.in_ok-d.ensures.within (past c.in_ok-loc.ensures (past c.in_ok-r.ensures (past c.in_ok-a.ensures (stop (rw c.down-y.ensures at c.in_err-h.ensures) c.from_residual-in_err-h.ensures.1)))))
 
 pub form-returns : goal.form-returns
-form-returns t c = form-needs.returns-3 t c.before
+unfolding ascii
+form-returns t c =
+    form_kind c.requires.at_value c.in_ok-d.ensures (sym c.is_word.ensures ∙ c.if-not-is_word.false) c.if-x-eq0.false (goes_form c.in_ok-d.ensures.within (past c.in_ok-loc.ensures (past c.in_ok-r.ensures (past c.in_ok-a.ensures (past (rw c.down-y.ensures at c.in_ok-h.ensures) ((rw c.down-y.ensures at c.child.ensures)))))))
+
+pub function-returns-in_err-loc : goal.function-returns-in_err-loc
+unfolding fault_number
+function-returns-in_err-loc t c = goes_function c.requires.at_in_bounds (stop c.in_err-loc.ensures c.from_residual.ensures.1)
+
+pub function-returns-in_err-i : goal.function-returns-in_err-i
+unfolding fault_number
+function-returns-in_err-i t c = goes_function c.requires.at_in_bounds (past c.in_ok-loc.ensures (stop (c.in_err-i.ensures.reads malformed refl) c.from_residual-in_err-i.ensures.1))
+
+pub function-returns-in_err-n : goal.function-returns-in_err-n
+unfolding fault_number
+function-returns-in_err-n t c =
+    goes_function c.requires.at_in_bounds (past c.in_ok-loc.ensures (past (c.in_ok-i.ensures.reads malformed refl) (stop c.in_err-n.ensures c.from_residual-in_err-n.ensures.1)))
+
+pub function-returns-in_err-raw : goal.function-returns-in_err-raw
+unfolding fault_number
+function-returns-in_err-raw t c =
+    goes_function c.requires.at_in_bounds (past c.in_ok-loc.ensures (past (c.in_ok-i.ensures.reads malformed refl) (past c.in_ok-n.ensures (stop c.in_err-raw.ensures c.from_residual-in_err-raw.ensures.1))))
+
+pub function-returns-in_err-a : goal.function-returns-in_err-a
+unfolding fault_number
+function-returns-in_err-a t c =
+    goes_function c.requires.at_in_bounds (past c.in_ok-loc.ensures (past (c.in_ok-i.ensures.reads malformed refl) (past c.in_ok-n.ensures (past c.in_ok-raw.ensures (stop c.in_err-a.ensures c.from_residual-in_err-a.ensures.1)))))
 
 pub function-returns : goal.function-returns
-function-returns t c = kinds-needs.function-returns t c.before
+unfolding fault_number
+function-returns t c =
+    goes_function c.requires.at_in_bounds (past c.in_ok-loc.ensures (past (c.in_ok-i.ensures.reads malformed refl) (past c.in_ok-n.ensures (past c.in_ok-raw.ensures (past c.in_ok-a.ensures c.child.ensures)))))
 
-pub helper-returns-then-k-eq-NO_HELPER_MARK : goal.helper-returns-then-k-eq-NO_HELPER_MARK
-helper-returns-then-k-eq-NO_HELPER_MARK t c = helper-needs.returns t c.before
-
-pub helper-returns-then-x-eq0 : goal.helper-returns-then-x-eq0
-helper-returns-then-x-eq0 t c = helper-needs.returns-2 t c.before
-
-pub helper-constant-requires : goal.helper-constant-requires
-helper-constant-requires t c = helper-needs.constant-requires t c.before ([], tt)
-
-pub helper-macro_form-requires : goal.helper-macro_form-requires
-helper-macro_form-requires t c = helper-needs.macro-form-requires t c.before ([], tt)
-
-pub helper-function-requires : goal.helper-function-requires
-helper-function-requires t c = helper-needs.function-requires t c.before ([], tt)
-
-pub helper-namespace-requires : goal.helper-namespace-requires
-helper-namespace-requires t c = helper-needs.namespace-requires t c.before ([], tt)
-
-pub helper-returns-in-0 : goal.helper-returns-in-0
-helper-returns-in-0 t c = helper-needs.returns-3 t c.before
-
-pub helper-returns-in-1 : goal.helper-returns-in-1
-helper-returns-in-1 t c = helper-needs.returns-4 t c.before
-
-pub helper-returns-in-2 : goal.helper-returns-in-2
-helper-returns-in-2 t c = helper-needs.returns-5 t c.before
-
-pub helper-returns-in-3 : goal.helper-returns-in-3
-helper-returns-in-3 t c = helper-needs.returns-6 t c.before
+pub helper-returns-in_err-d : goal.helper-returns-in_err-d
+helper-returns-in_err-d t c = goes_unread a_helper c.requires.at_value c.in_err-d.ensures c.from_residual.ensures.1
 
 pub helper-returns-in_default : goal.helper-returns-in_default
-helper-returns-in_default t c = helper-needs.returns-7 t c.before
+helper-returns-in_default t c = helper_unknown c.requires.at_value c.in_ok-d.ensures (no_helper _ c.in_default.ensures) c.refused.ensures
 
-pub lambda-returns-then-c-ne0 : goal.lambda-returns-then-c-ne0
-lambda-returns-then-c-ne0 t c = lambda-needs.returns t c.before
+pub helper-returns-then-x-eq0 : goal.helper-returns-then-x-eq0
+helper-returns-then-x-eq0 t c = helper_deep c.requires.at_value c.in_ok-d.ensures c.if-x-eq0.true c.in-Some.ensures c.refused-then-x-eq0.ensures
+
+pub helper-returns-in-Constant : goal.helper-returns-in-Constant
+unfolding choose same ascii
+helper-returns-in-Constant t c =
+    helper_kind c.requires.at_value c.in_ok-d.ensures 0 constant_after (λ _. refl) (helper_placed c.in-Constant.is c.in-Some.ensures) (omega arith) c.if-x-eq0.false (rw c.down-y.ensures at c.constant.ensures)
+
+pub helper-returns-in-Macro : goal.helper-returns-in-Macro
+unfolding choose same ascii
+helper-returns-in-Macro t c =
+    helper_kind c.requires.at_value c.in_ok-d.ensures 1 macro_after (λ _. refl) (helper_placed c.in-Macro.is c.in-Some.ensures) (omega arith) c.if-x-eq0.false (rw c.down-y.ensures at c.macro_form.ensures)
+
+pub helper-returns-in-Function : goal.helper-returns-in-Function
+unfolding choose same ascii
+helper-returns-in-Function t c =
+    helper_kind c.requires.at_value c.in_ok-d.ensures 2 function_after (λ _. refl) (helper_placed c.in-Function.is c.in-Some.ensures) (omega arith) c.if-x-eq0.false (rw c.down-y.ensures at c.function.ensures)
+
+pub helper-returns-in-Namespace : goal.helper-returns-in-Namespace
+unfolding choose same ascii
+helper-returns-in-Namespace t c =
+    helper_kind c.requires.at_value c.in_ok-d.ensures 3 namespace_after (λ _. refl) (helper_placed c.in-Namespace.is c.in-Some.ensures) (omega arith) c.if-x-eq0.false (rw c.down-y.ensures at c.namespace.ensures)
+
+pub helper-returns-in-Reference : goal.helper-returns-in-Reference
+unfolding choose same ascii
+helper-returns-in-Reference t c =
+    helper_kind c.requires.at_value c.in_ok-d.ensures 4 (λ _. reference_after) (λ _. refl) (helper_placed c.in-Reference.is c.in-Some.ensures) (omega arith) c.if-x-eq0.false (goes_reads c.reference.ensures)
 
 pub lambda-returns-then-x-eq0 : goal.lambda-returns-then-x-eq0
-lambda-returns-then-x-eq0 t c = lambda-needs.returns-2 t c.before
+lambda-returns-then-x-eq0 t c = goes_no_lambda c.requires.at_in_bounds c.if-x-eq0.true c.refused.ensures refl
 
-pub lambda-child-e-requires : goal.lambda-child-e-requires
-lambda-child-e-requires t c = lambda-needs.child-requires t c.before ([], tt)
+pub lambda-returns-in_err-loc : goal.lambda-returns-in_err-loc
+lambda-returns-in_err-loc t c = goes_lambda c.requires.at_in_bounds c.if-x-eq0.false (stop c.in_err-loc.ensures c.from_residual.ensures.1)
 
-pub lambda-child_sexp-f-requires : goal.lambda-child_sexp-f-requires
-lambda-child_sexp-f-requires t c = record { at_in_bounds = (lambda-needs.child-sexp-requires-2 t c.before ([], tt)).0; s_bound = (lambda-needs.child-sexp-requires-2 t c.before ([], tt)).1 }
+pub lambda-returns-in_err-k : goal.lambda-returns-in_err-k
+lambda-returns-in_err-k t c = goes_lambda c.requires.at_in_bounds c.if-x-eq0.false (past c.in_ok-loc.ensures (stop c.in_err-k.ensures c.from_residual-in_err-k.ensures.1))
 
-pub lambda-child-requires : goal.lambda-child-requires
-lambda-child-requires t c = lambda-needs.child-requires-2 t c.before ([], tt)
+pub lambda-returns-in_err-d : goal.lambda-returns-in_err-d
+lambda-returns-in_err-d t c =
+    goes_lambda c.requires.at_in_bounds c.if-x-eq0.false (past c.in_ok-loc.ensures (past c.in_ok-k.ensures (stop c.in_err-d.ensures c.from_residual-in_err-d.ensures.1)))
+
+pub lambda-returns-in_err-e : goal.lambda-returns-in_err-e
+lambda-returns-in_err-e t c =
+    goes_lambda c.requires.at_in_bounds c.if-x-eq0.false (past c.in_ok-loc.ensures (past c.in_ok-k.ensures (past c.in_ok-d.ensures (stop c.in_err-e.ensures c.from_residual-in_err-e.ensures.1))))
+
+pub lambda-returns-in_err-f : goal.lambda-returns-in_err-f
+lambda-returns-in_err-f t c =
+    goes_lambda c.requires.at_in_bounds c.if-x-eq0.false (past c.in_ok-loc.ensures (past c.in_ok-k.ensures (past c.in_ok-d.ensures (past c.in_ok-e.ensures (stop c.in_err-f.ensures c.from_residual-in_err-f.ensures.1)))))
 
 pub lambda-returns : goal.lambda-returns
-lambda-returns t c = lambda-needs.returns-3 t c.before
+lambda-returns t c =
+    goes_lambda c.requires.at_in_bounds c.if-x-eq0.false (past c.in_ok-loc.ensures (past c.in_ok-k.ensures (past c.in_ok-d.ensures (past c.in_ok-e.ensures (past c.in_ok-f.ensures c.child-2.ensures)))))
 
-pub let_after-returns-then-e-ne0 : goal.let_after-returns-then-e-ne0
-let_after-returns-then-e-ne0 t c = let-after-needs.returns t c.before
+pub let_after-returns-in_err-loc : goal.let_after-returns-in_err-loc
+let_after-returns-in_err-loc t c = goes_let_of c.requires.at_in_bounds _ (stop c.in_err-loc.ensures c.from_residual.ensures.1)
 
-pub let_after-bounds-s-at : goal.let_after-bounds-s-at
-let_after-bounds-s-at t c = let-after-needs.shared-slice-read-n t c.before
+pub let_after-returns-in_err-keyword : goal.let_after-returns-in_err-keyword
+let_after-returns-in_err-keyword t c = goes_let_of c.requires.at_in_bounds _ (past c.in_ok-loc.ensures (stop c.in_err-keyword.ensures c.from_residual-in_err-keyword.ensures.1))
+
+pub let_after-returns-in_err-d : goal.let_after-returns-in_err-d
+let_after-returns-in_err-d t c =
+    goes_let_of c.requires.at_in_bounds _ (past c.in_ok-loc.ensures (past c.in_ok-keyword.ensures (stop c.in_err-d.ensures c.from_residual-in_err-d.ensures.1)))
+
+pub let_after-returns-in_err-e : goal.let_after-returns-in_err-e
+let_after-returns-in_err-e t c =
+    goes_let_of c.requires.at_in_bounds _ (past c.in_ok-loc.ensures (past c.in_ok-keyword.ensures (past c.in_ok-d.ensures (stop c.in_err-e.ensures c.from_residual-in_err-e.ensures.1))))
+
+pub let_after-bounds-s-d : goal.let_after-bounds-s-d
+let_after-bounds-s-d t c = byte_there exact_count c.in_ok-d.ensures.within c.in_ok-e.ensures
 
 pub let_after-returns-then-x-more : goal.let_after-returns-then-x-more
-let_after-returns-then-x-more t c = let-after-needs.returns-2 t c.before
+let_after-returns-then-x-more t c =
+    goes_let_of c.requires.at_in_bounds _ (past c.in_ok-loc.ensures (past c.in_ok-keyword.ensures (past c.in_ok-d.ensures (past c.in_ok-e.ensures (too_deep _ c.more_levels-more.ensures c.if-x-more.true c.refused.ensures refl)))))
 
-pub let_after-times-b-requires : goal.let_after-times-b-requires
-let_after-times-b-requires t c = let-after-needs.times-requires t c.before ([], tt)
-
-pub let_after-child-requires : goal.let_after-child-requires
-let_after-child-requires t c = let-after-needs.child-requires t c.before ([], tt)
+pub let_after-returns-in_err-b : goal.let_after-returns-in_err-b
+let_after-returns-in_err-b t c =
+    goes_let_of c.requires.at_in_bounds _ (past c.in_ok-loc.ensures (past c.in_ok-keyword.ensures (past c.in_ok-d.ensures (past c.in_ok-e.ensures (levels _ c.more_levels-more.ensures c.if-x-more.false (stop (rw (c.among.ensures, c.down-y.ensures) at c.in_err-b.ensures) c.from_residual-in_err-b.ensures.1))))))
 
 pub let_after-returns : goal.let_after-returns
-let_after-returns t c = let-after-needs.returns-3 t c.before
+let_after-returns t c =
+    goes_let_of c.requires.at_in_bounds _ (past c.in_ok-loc.ensures (past c.in_ok-keyword.ensures (past c.in_ok-d.ensures (past c.in_ok-e.ensures (levels _ c.more_levels-more.ensures c.if-x-more.false (past (rw (c.among.ensures, c.down-y.ensures) at c.in_ok-b.ensures) (rw c.down-y.ensures at c.child.ensures)))))))
 
-pub let_form-returns-then-d-ne0 : goal.let_form-returns-then-d-ne0
-let_form-returns-then-d-ne0 t c = let-form-needs.returns t c.before
-
-pub let_form-bounds-s-at : goal.let_form-bounds-s-at
-let_form-bounds-s-at t c = let-form-needs.shared-slice-read-let-after t c.before
+pub let_form-returns-in_err-d : goal.let_form-returns-in_err-d
+unfolding fault_number
+let_form-returns-in_err-d t c = goes_let c.requires.at_in_bounds (stop (c.in_err-d.ensures.reads malformed refl) c.from_residual.ensures.1)
 
 pub let_form-returns : goal.let_form-returns
-let_form-returns t c = let-form-needs.returns-2 t c.before
+unfolding fault_number
+let_form-returns t c = goes_let c.requires.at_in_bounds (past (c.in_ok-d.ensures.reads malformed refl) c.let_after.ensures)
+
+pub let_form-bounds-s-c : goal.let_form-bounds-s-c
+unfolding fault_number
+let_form-bounds-s-c t c = byte_there (exact_up_to 2) c.requires.at_in_bounds (c.in_ok-d.ensures.reads malformed refl)
+
+pub macro_form-returns-in_err-loc : goal.macro_form-returns-in_err-loc
+macro_form-returns-in_err-loc t c = goes_macro c.requires.at_in_bounds (stop c.in_err-loc.ensures c.from_residual.ensures.1)
+
+pub macro_form-returns-in_err-n : goal.macro_form-returns-in_err-n
+macro_form-returns-in_err-n t c = goes_macro c.requires.at_in_bounds (past c.in_ok-loc.ensures (stop c.in_err-n.ensures c.from_residual-in_err-n.ensures.1))
+
+pub macro_form-returns-in_err-raw : goal.macro_form-returns-in_err-raw
+macro_form-returns-in_err-raw t c =
+    goes_macro c.requires.at_in_bounds (past c.in_ok-loc.ensures (past c.in_ok-n.ensures (stop c.in_err-raw.ensures c.from_residual-in_err-raw.ensures.1)))
+
+pub macro_form-returns-in_err-a : goal.macro_form-returns-in_err-a
+macro_form-returns-in_err-a t c =
+    goes_macro c.requires.at_in_bounds (past c.in_ok-loc.ensures (past c.in_ok-n.ensures (past c.in_ok-raw.ensures (stop c.in_err-a.ensures c.from_residual-in_err-a.ensures.1))))
 
 pub macro_form-returns : goal.macro_form-returns
-macro_form-returns t c = kinds-needs.macro-form-returns t c.before
+macro_form-returns t c = goes_macro c.requires.at_in_bounds (past c.in_ok-loc.ensures (past c.in_ok-n.ensures (past c.in_ok-raw.ensures (past c.in_ok-a.ensures c.child.ensures))))
 
-pub many-returns-then-d-ne0 : goal.many-returns-then-d-ne0
-many-returns-then-d-ne0 t c = many-needs.returns t c.before
-
-pub many-bounds-s-at : goal.many-bounds-s-at
-many-bounds-s-at t c = many-needs.shared-slice-read-times t c.before
+pub many-returns-in_err-d : goal.many-returns-in_err-d
+many-returns-in_err-d t c = goes_many _ c.requires.at_in_bounds (stop c.in_err-d.ensures c.from_residual.ensures.1)
 
 pub many-returns : goal.many-returns
-many-returns t c = many-needs.returns-2 t c.before
+many-returns t c = goes_many _ c.requires.at_in_bounds (past c.in_ok-d.ensures c.times.ensures)
+
+pub many-bounds-s-c : goal.many-bounds-s-c
+many-bounds-s-c t c = byte_there exact_count c.requires.at_in_bounds c.in_ok-d.ensures
+
+pub mod_form-returns-in_err-d : goal.mod_form-returns-in_err-d
+mod_form-returns-in_err-d t c = goes_mod c.requires.at_in_bounds c.noted.ensures (stop c.in_err-d.ensures c.from_residual.ensures.1)
 
 pub mod_form-returns : goal.mod_form-returns
-mod_form-returns t c = kinds-needs.mod-form-returns t c.before
+mod_form-returns t c = goes_mod c.requires.at_in_bounds c.noted.ensures (past c.in_ok-d.ensures c.child.ensures)
+
+pub namespace-returns-in_err-loc : goal.namespace-returns-in_err-loc
+namespace-returns-in_err-loc t c = goes_namespace c.requires.at_in_bounds (stop c.in_err-loc.ensures c.from_residual.ensures.1)
+
+pub namespace-returns-in_err-n : goal.namespace-returns-in_err-n
+namespace-returns-in_err-n t c = goes_namespace c.requires.at_in_bounds (past c.in_ok-loc.ensures (stop c.in_err-n.ensures c.from_residual-in_err-n.ensures.1))
+
+pub namespace-returns-in_err-raw : goal.namespace-returns-in_err-raw
+namespace-returns-in_err-raw t c =
+    goes_namespace c.requires.at_in_bounds (past c.in_ok-loc.ensures (past c.in_ok-n.ensures (stop c.in_err-raw.ensures c.from_residual-in_err-raw.ensures.1)))
 
 pub namespace-returns : goal.namespace-returns
-namespace-returns t c = kinds-needs.namespace-returns t c.before
+namespace-returns t c = goes_namespace c.requires.at_in_bounds (past c.in_ok-loc.ensures (past c.in_ok-n.ensures (past c.in_ok-raw.ensures c.many.ensures)))
 
-pub read_record-binding-requires : goal.read_record-binding-requires
-read_record-binding-requires t c = child-needs.binding-requires t c.before ([], tt)
+pub tail-returns-in_err-d : goal.tail-returns-in_err-d
+unfolding fault_number
+tail-returns-in_err-d t c = tail_none c.requires.at_in_bounds (stop (c.in_err-d.ensures.reads malformed refl) c.from_residual.ensures.1)
 
-pub read_record-returns-in-Body : goal.read_record-returns-in-Body
-read_record-returns-in-Body t c = child-needs.record-returns t c.before
+pub tail-bounds-s-c : goal.tail-bounds-s-c
+unfolding fault_number
+tail-bounds-s-c t c = byte_there (exact_up_to 1) c.requires.at_in_bounds (c.in_ok-d.ensures.reads malformed refl)
 
-pub read_record-returns-in-Binding : goal.read_record-returns-in-Binding
-read_record-returns-in-Binding t c = child-needs.record-returns-2 t c.before
-
-pub read_record-returns-in-Helper : goal.read_record-returns-in-Helper
-read_record-returns-in-Helper t c = child-needs.record-returns-3 t c.before
-
-pub read_record-returns-in-Form : goal.read_record-returns-in-Form
-read_record-returns-in-Form t c = child-needs.record-returns-4 t c.before
-
-pub tail-returns-then-d-ne0 : goal.tail-returns-then-d-ne0
-tail-returns-then-d-ne0 t c = tail_needs.returns t c.before
-
-pub tail-bounds-s-at : goal.tail-bounds-s-at
-tail-bounds-s-at t c = tail_needs.shared-slice-read-if2 t c.before
-
-pub tail-returns-then-s-at-eq0 : goal.tail-returns-then-s-at-eq0
-tail-returns-then-s-at-eq0 t c = tail_needs.returns-2 t c.before
+pub tail-returns-then-s-c-eq0 : goal.tail-returns-then-s-c-eq0
+unfolding fault_number
+tail-returns-then-s-c-eq0 t c = tail_none c.requires.at_in_bounds (past (c.in_ok-d.ensures.reads malformed refl) (c.if-s-c-eq0.true, refl))
 
 pub tail-returns : goal.tail-returns
-tail-returns t c = tail_needs.returns-3 t c.before
+unfolding fault_number
+tail-returns t c = tail_there c.requires.at_in_bounds (past (c.in_ok-d.ensures.reads malformed refl) (c.if-s-c-eq0.false, c.child.ensures))
 
-pub times-loop-i-init : goal.times-loop-i-init
-times-loop-i-init t c = times-needs.loop-holds t c.before
+pub times-returns-in_err-d : goal.times-returns-in_err-d
+times-returns-in_err-d t c = c.loop.invariant.1 _ (loop_more _ _ _ (omega arith) c.loop.invariant.0 (stop c.in_err-d.ensures c.from_residual.ensures.1))
 
-pub times-loop-i-preserved : goal.times-loop-i-preserved
-times-loop-i-preserved t c = times-needs.loop-again t c.before
+pub times-loop-preserved : goal.times-loop-preserved
+times-loop-preserved t c = (c.in_ok-d.ensures.within, λ r h. c.loop.invariant.1 r (loop_more _ _ _ (omega arith) c.loop.invariant.0 (past c.in_ok-d.ensures h)))
 
 pub times-returns : goal.times-returns
-times-returns t c = times-needs.returns t c.before
+times-returns t c = c.loop.invariant.1 _ (loop_last _ _ _ (omega arith) c.loop.invariant.0)

@@ -1,5 +1,7 @@
--- The reader of B, BB, H and CF records meets its contracts: what falls is in Base, and what each function needs in a file of its own. What stays is that
--- a reading is within the bytes and comes to where the definition of reading comes. Assumes nothing.
+-- What falls in the reader of B, BB, H and CF records: 16 times the levels that are left, and the phase, which is larger for a record than for what it goes
+-- on to. What stays in its loop is that a reading is within the bytes and comes to where the definition of reading comes. Assumes nothing.
+use Rattle.std.specs.Prelude.{Result}
+use Rattle.names.specs.declared.Refusal.{Refusal}
 use Prim.Native.Nat.{◌+◌, ◌*◌, ◌≤◌, ◌-◌}
 use Rattle.records.proofs.Goes.{weight}
 use lib.ListN.{length}
@@ -62,9 +64,6 @@ abbrev pub decreases-times : goal.decreases-times
 decreases-times l = 16 * l.x.room + (5 + weight l.family)
 
 -- the reading is within the bytes, and what goes on from it over the records left goes on from the first over all
-abbrev pub invariant-times-loop-i : goal.invariant-times-loop-i
-invariant-times-loop-i l =
-    (l.d.at ≤ length l.s) × (l.i ≤ l.n) × ((r : Scan) → Goes (times-reader (l.n - l.i) l.family) l.x l.s l.d r → Goes (times-reader l.n l.family) l.x l.s l.initial.d r)
-
-abbrev pub decreases-times-loop-i : goal.decreases-times-loop-i
-decreases-times-loop-i l = l.n - l.i
+abbrev pub invariant-times-loop : goal.invariant-times-loop
+invariant-times-loop l =
+    (l.d.at ≤ length l.s) × ((r : Result Scan Refusal) → Goes (times-reader (l.n - l.counter) l.family) l.x l.s l.d r → Goes (times-reader l.n l.family) l.x l.s l.initial.d r)

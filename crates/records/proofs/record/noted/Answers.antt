@@ -1,22 +1,16 @@
 -- `records::record::noted` meets its contract. Assumes nothing.
-use native.Mathlib.Omega.{arith}
-use Rattle.records.proofs.ContextLaws.{note_plain, note_inside, note_refused, note_later, note_first}
+use mathlib.Core.Path.{refl, ◌∙◌}
+use Rattle.records.specs.Read.{noted}
+use Rattle.records.proofs.ContextLaws.{comes_note, noted_or}
 use Rattle.records.proofs.record.noted.Goals as goal
 
-pub returns-then-c-ne0 : goal.returns-then-c-ne0
-returns-then-c-ne0 c = note_refused _ _ _ c.requires.at_in_bounds c.if-c-ne0.true
-
-pub returns-then-c-ne0-2 : goal.returns-then-c-ne0-2
-returns-then-c-ne0-2 c = note_later _ _ _ c.requires.at_in_bounds c.in-InBinding.is c.if-c-ne0-2.true
-
-pub overflow_add-d : goal.overflow_add-d
-overflow_add-d c = omega (arith, c.requires.s_bound)
-
 pub returns-in-Plain : goal.returns-in-Plain
-returns-in-Plain c = note_plain _ _ _ c.requires.at_in_bounds c.in-Plain.is
+unfolding noted
+returns-in-Plain c = comes_note _ c.requires.at_in_bounds (rw (c.in-Plain.is, noted) refl)
 
 pub returns-in-InMod : goal.returns-in-InMod
-returns-in-InMod c = note_inside _ _ _ c.requires.at_in_bounds c.in-InMod.is
+unfolding noted
+returns-in-InMod c = comes_note _ c.requires.at_in_bounds (rw (c.in-InMod.is, noted) refl)
 
-pub returns-else-c-ne0-2 : goal.returns-else-c-ne0-2
-returns-else-c-ne0-2 c = note_first _ _ _ c.requires.at_in_bounds c.in-InBinding.is c.if-c-ne0.false c.if-c-ne0-2.false
+pub returns-in-InBinding : goal.returns-in-InBinding
+returns-in-InBinding c = comes_note _ c.requires.at_in_bounds (rw c.in-InBinding.is (c.or.ensures ∙ noted_or _ _))

@@ -1,22 +1,21 @@
--- `crate::sexps::all_zero` meets its contract. The invariant: all bytes are 00 where the rest is.
--- Assumes nothing.
-use mathlib.Core.Path.{refl, sym, ◌∙◌}
-use native.Mathlib.Omega.{arith}
-use Rattle.records.proofs.Zeros.{zero_go, zero_stop, zero_end}
+-- `crate::sexps::all_zero` meets its contract. Assumes nothing.
+use mathlib.Core.Path.{◌≡◌, refl, ap, ◌∙◌}
+use mathlib.Core.Bool.{Bool, ◌&&◌}
+use mathlib.Core.List.{[], ◌∷◌}
+use lib.Dec.{eqb}
+use borrow.Author.Rules.{rules}
+use borrow.Author.Tests.{tests}
+use Rattle.std.specs.List.{list_all}
+use Rattle.std.proofs.lemmas.Iterator.{YieldsList-from_slice}
+use Rattle.std.proofs.lemmas.Iterator.Search.{all_from_yields_List}
+use Rattle.names.specs.Names.{Bytes}
+use Rattle.records.specs.Sexps.{all_zero}
 use Rattle.records.proofs.sexps.all_zero.Goals as goal
 
-pub loop-i-init : goal.loop-i-init
-loop-i-init c = (omega arith, refl)
-
-pub returns-then-s-i-ne0 : goal.returns-then-s-i-ne0
-returns-then-s-i-ne0 c =
-    let l = c.loop-i in
-    sym (zero_stop _ l.i (omega arith) c.if-s-i-ne0.true) ∙ l.invariant.1
-
-pub loop-i-preserved : goal.loop-i-preserved
-loop-i-preserved c =
-    let l = c.loop-i in
-    (omega arith, zero_go _ l.i (omega arith) c.if-s-i-ne0.false ∙ l.invariant.1)
+zeros : (s : Bytes) → list_all (λ b. eqb b 0) s ≡ all_zero s
+unfolding all_zero
+zeros [] = refl
+zeros (b ∷ s) = ap (λ (t : Bool). eqb b 0 && t) (zeros s)
 
 pub returns : goal.returns
-returns c = sym (zero_end _ c.loop-i.i (omega arith)) ∙ c.loop-i.invariant.1
+returns c = all_from_yields_List (λ b. eqb b 0) _ _ _ c.all.ensures.ran (YieldsList-from_slice c.args.s.now cc) (λ x b q k. search (rules, tests)) ∙ zeros _

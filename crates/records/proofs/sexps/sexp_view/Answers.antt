@@ -1,24 +1,22 @@
 -- `crate::sexps::sexp_view` meets its contract. Assumes nothing.
-use mathlib.Core.Path.{sym, ◌∙◌}
-use borrow.Author.Rules.{rules}
-use Rattle.records.proofs.SexpLaws.{none_of_five}
+use Rattle.records.proofs.Marks.{sexp_placed, no_sexp}
 use Rattle.records.proofs.AnySexp.{sees_nil, sees_pair, sees_number, sees_text, sees_name_of, sees_unknown}
 use Rattle.records.proofs.sexps.sexp_view.Goals as goal
 
-pub returns-in-0 : goal.returns-in-0
-returns-in-0 c = sees_nil c.past_head-head.ensures (sym c.in-0.is ∙ c.sexp_mark-k.ensures)
+pub returns-in-Some-Nil : goal.returns-in-Some-Nil
+returns-in-Some-Nil c = sees_nil c.past_head-head.ensures (sexp_placed c.in-Some-Nil.field-0-is c.in-Some-Nil.ensures)
 
-pub returns-in-1 : goal.returns-in-1
-returns-in-1 c = sees_pair c.past_head-head.ensures (sym c.in-1.is ∙ c.sexp_mark-k.ensures)
+pub returns-in-Some-Pair : goal.returns-in-Some-Pair
+returns-in-Some-Pair c = sees_pair c.past_head-head.ensures (sexp_placed c.in-Some-Pair.field-0-is c.in-Some-Pair.ensures)
 
-pub returns-in-2 : goal.returns-in-2
-returns-in-2 c = sees_number c.past_head-head.ensures (sym c.in-2.is ∙ c.sexp_mark-k.ensures) c.integer_view.ensures
+pub returns-in-Some-Integer : goal.returns-in-Some-Integer
+returns-in-Some-Integer c = sees_number c.past_head-head.ensures (sexp_placed c.in-Some-Integer.field-0-is c.in-Some-Integer.ensures) c.integer_view.ensures
 
-pub returns-in-3 : goal.returns-in-3
-returns-in-3 c = sees_text c.past_head-head.ensures (sym c.in-3.is ∙ c.sexp_mark-k.ensures) c.past_bytes.ensures.past c.name_view.ensures
+pub returns-in-Some-Text : goal.returns-in-Some-Text
+returns-in-Some-Text c = sees_text c.past_head-head.ensures (sexp_placed c.in-Some-Text.field-0-is c.in-Some-Text.ensures) c.past_bytes.ensures.past c.name_view.ensures
 
-pub returns-in-4 : goal.returns-in-4
-returns-in-4 c = sees_name_of c.past_head-head.ensures (sym c.in-4.is ∙ c.sexp_mark-k.ensures) c.name_view-in-4.ensures
+pub returns-in-Some-Atom : goal.returns-in-Some-Atom
+returns-in-Some-Atom c = sees_name_of c.past_head-head.ensures (sexp_placed c.in-Some-Atom.field-0-is c.in-Some-Atom.ensures) c.name_view-in-Some-Atom.ensures
 
-pub returns-in_default : goal.returns-in_default
-returns-in_default c = sees_unknown (none_of_five _ c.sexp_mark-k.ensures (search rules))
+pub returns-in-None : goal.returns-in-None
+returns-in-None c = sees_unknown (no_sexp _ c.in-None.ensures)

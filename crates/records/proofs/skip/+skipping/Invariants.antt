@@ -33,10 +33,7 @@ decreases-skip l = 4 * length l.s.now + 3
 abbrev pub decreases-tail : goal.decreases-tail
 decreases-tail l = 4 * (length l.s.now - l.at) + 5
 
-abbrev pub invariant-after-loop-i : goal.invariant-after-loop-i
-invariant-after-loop-i vars =
+abbrev pub invariant-after-loop : goal.invariant-after-loop
+invariant-after-loop vars =
     let l = list_part (family_part vars.family) vars.n in
-    (vars.i ≤ vars.n) × (vars.at ≤ vars.end) × (vars.end ≤ length vars.s) × ((ts : l.0) → l.2 ts → At vars.s vars.at (l.1 ts) → Left (family_part vars.family) vars.s vars.end vars.i vars.n (vars.at + length (l.1 ts)))
-
-abbrev pub decreases-after-loop-i : goal.decreases-after-loop-i
-decreases-after-loop-i l = l.n - l.i
+    (vars.at ≤ vars.end) × (vars.end ≤ length vars.s) × ((ts : l.0) → l.2 ts → At vars.s vars.at (l.1 ts) → Left (family_part vars.family) vars.s vars.end vars.counter vars.n (vars.at + length (l.1 ts)))

@@ -3,21 +3,21 @@
 use borrow.Author.Rules.{rules}
 use mathlib.Core.Path.{sym, ap}
 use lib.Seq.{length-take-le}
-use Rattle.names.specs.CallAnswer.{Result}
+use Rattle.names.specs.CallAnswer.{CallResult}
 use Rattle.replays.proofs.Deciding.{decides_as, decides_no, fails_not}
 use Rattle.replays.proofs.Filling.{decides_rest}
 use Rattle.replay_calls.proofs.CallLaws.{held_part, part_held, due_made}
 use Rattle.replay_calls.proofs.calls.same_result.Goals as goal
 
 pub returns-then-not-same_answer : goal.returns-then-not-same_answer
-returns-then-not-same_answer c = decides_no (λ e. fails_not (c.if-not-same_answer.true) c.same_answer.ensures (ap (λ (x : Result). x.0) e.0))
+returns-then-not-same_answer c = decides_no (λ e. fails_not (c.if-not-same_answer.true) c.same_answer.ensures (ap (λ (x : CallResult). x.0) e.0))
 
 pub slice_bounds-holds-end : goal.slice_bounds-holds-end
 slice_bounds-holds-end c = sym (length-take-le _ _ (search rules))
 
 pub returns-then-not-holds : goal.returns-then-not-holds
 returns-then-not-holds c =
-    decides_no (λ e. fails_not (c.if-not-holds.true) c.holds.ensures (part_held c.args.mem.now c.args.wanted.now c.requires (ap (λ (x : Result). x.1) e.0)))
+    decides_no (λ e. fails_not (c.if-not-holds.true) c.holds.ensures (part_held c.args.mem.now c.args.wanted.now c.requires (ap (λ (x : CallResult). x.1) e.0)))
 
 pub returns : goal.returns
 returns c =

@@ -7,8 +7,6 @@ use lib.ListN.{length}
 use Rattle.names.proofs.Parts.{back}
 use Rattle.walk.specs.DrawnMaps.{Roomy, InventsSexp}
 use Rattle.walk.specs.declared.Growth.{Growth}
-use Rattle.walk.specs.declared.Invented.{Invented}
-use Rattle.walk.specs.declared.Invented.TheVariants.{Drawn, Refused}
 use Rattle.walk.proofs.InventSexps.{roomy_part, moved, invents_part}
 use Rattle.walk.proofs.MapLaws.{no_map}
 use Rattle.replay_sexps.proofs.CaseLaws.{roomy, ready, tells_drawn, tells_refused}
@@ -16,6 +14,9 @@ use Rattle.replay_sexps.proofs.sexps.draws.Lts
 use Rattle.replay_sexps.proofs.sexps.draws.Reads
 use Rattle.replay_sexps.proofs.sexps.draws.Tie as tie
 use Rattle.replay_sexps.proofs.sexps.draws.Goals as goal
+use Rattle.std.specs.declared.result.Result.{Result}
+use Rattle.names.specs.declared.Refusal.{Refusal}
+use Rattle.std.specs.declared.result.Result.TheVariants.{Ok, Err}
 
 abbrev Start : Type 0
 Start = Lts.Start tie.the-claims Reads.Pre Reads.Post tie.handed_clauses
@@ -65,7 +66,7 @@ abbrev held : After-holds → After-same_draw
 held c = c.before.before
 
 -- what Invent answers, said of all memory
-abbrev Answered : After-invent_new_names_sexp → Invented → Type 0
+abbrev Answered : After-invent_new_names_sexp → Result Growth Refusal → Type 0
 Answered c r =
     let l = c.before.before.before.before in
     let a = (given l).args in
@@ -79,11 +80,11 @@ answered d =
     let i = d.invent_new_names_sexp in
     invents_part l.load.new.mem (given l).args.at.pattern i.new.mem i.result i.ensures
 
-answered-drawn : (c : After-g) → Answered (drawn c) (Drawn c.in-Drawn.g)
-answered-drawn c = subst (Answered (drawn c)) c.in-Drawn.is (answered (drawn c))
+answered-drawn : (c : After-g) → Answered (drawn c) (Ok c.in-Ok.g)
+answered-drawn c = subst (Answered (drawn c)) c.in-Ok.is (answered (drawn c))
 
-answered-refused : (c : After-r) → Answered (not-drawn c) (Refused c.in-Refused.r)
-answered-refused c = subst (Answered (not-drawn c)) c.in-Refused.is (answered (not-drawn c))
+answered-refused : (c : After-r) → Answered (not-drawn c) (Err c.in-Err.r)
+answered-refused c = subst (Answered (not-drawn c)) c.in-Err.is (answered (not-drawn c))
 
 pub slice_bounds-invent_new_names_sexp-count : goal.slice_bounds-invent_new_names_sexp-count
 slice_bounds-invent_new_names_sexp-count c = omega (arith, (drawn-from c.before.before.before).fits)

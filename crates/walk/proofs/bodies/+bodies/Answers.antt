@@ -1,1304 +1,1020 @@
--- Own and In-body meet their contracts: what falls is in Base, what each function needs in a file of its own. Assumes nothing.
-mod Base
-mod NeedsArgsBodyform
-mod NeedsAssign
-mod NeedsAssignAll
-mod NeedsAssignOne
-mod NeedsBind
-mod NeedsBinds
-mod NeedsBoth
-mod NeedsBound
-mod NeedsCall
-mod NeedsChain
-mod NeedsComplex
-mod NeedsEach
-mod NeedsEither
-mod NeedsInBodyform
-mod NeedsInLambda
-mod NeedsInLet
-mod NeedsLambda
-mod NeedsLets
-mod NeedsMoved
-mod NeedsNamed
-mod NeedsNested
-mod NeedsOver
-mod NeedsParallel
-mod NeedsRedo
-mod NeedsRest
-mod NeedsSorted
-mod NeedsTail
-use Rattle.walk.proofs.bodies.args_bodyform.Reads as args_bodyform
-use Rattle.walk.proofs.bodies.+bodies.Lts-args_bodyform as args-bodyform-lts
-use Rattle.walk.proofs.bodies.lets.Reads as lets
-use Rattle.walk.proofs.bodies.+bodies.Lts-lets as lets-lts
-use Rattle.walk.proofs.bodies.both.Reads as both
-use Rattle.walk.proofs.bodies.+bodies.Lts-both as both-lts
-use Rattle.walk.proofs.bodies.assign.Reads as assign
-use Rattle.walk.proofs.bodies.+bodies.Lts-assign as assign-lts
-use Rattle.walk.proofs.bodies.assign_one.Reads as assign-one
-use Rattle.walk.proofs.bodies.+bodies.Lts-assign_one as assign-one-lts
-use Rattle.walk.proofs.bodies.bind.Reads as bind
-use Rattle.walk.proofs.bodies.+bodies.Lts-bind as bind-lts
-use Rattle.walk.proofs.bodies.binds.Reads as binds
-use Rattle.walk.proofs.bodies.+bodies.Lts-binds as binds-lts
-use Rattle.walk.proofs.bodies.call.Reads as call
-use Rattle.walk.proofs.bodies.+bodies.Lts-call as call-lts
-use Rattle.walk.proofs.bodies.rest.Reads as rest
-use Rattle.walk.proofs.bodies.+bodies.Lts-rest as rest-lts
-use Rattle.walk.proofs.bodies.complex.Reads as complex
-use Rattle.walk.proofs.bodies.+bodies.Lts-complex as complex-lts
-use Rattle.walk.proofs.bodies.nested.Reads as nested
-use Rattle.walk.proofs.bodies.+bodies.Lts-nested as nested-lts
-use Rattle.walk.proofs.bodies.either.Reads as either
-use Rattle.walk.proofs.bodies.+bodies.Lts-either as either-lts
-use Rattle.walk.proofs.bodies.each.Reads as each
-use Rattle.walk.proofs.bodies.+bodies.Lts-each as each-lts
-use Rattle.walk.proofs.bodies.in_bodyform.Reads as in_bodyform
-use Rattle.walk.proofs.bodies.+bodies.Lts-in_bodyform as in-bodyform-lts
-use Rattle.walk.proofs.bodies.in_lambda.Reads as in_lambda
-use Rattle.walk.proofs.bodies.+bodies.Lts-in_lambda as in-lambda-lts
-use Rattle.walk.proofs.bodies.in_let.Reads as in-let
-use Rattle.walk.proofs.bodies.+bodies.Lts-in_let as in-let-lts
-use Rattle.walk.proofs.bodies.lambda.Reads as lambda
-use Rattle.walk.proofs.bodies.+bodies.Lts-lambda as lambda-lts
-use Rattle.walk.proofs.bodies.named.Reads as named
-use Rattle.walk.proofs.bodies.+bodies.Lts-named as named-lts
-use Rattle.walk.proofs.bodies.sorted.Reads as sorted
-use Rattle.walk.proofs.bodies.+bodies.Lts-sorted as sorted-lts
-use Rattle.walk.proofs.bodies.over.Reads as over
-use Rattle.walk.proofs.bodies.+bodies.Lts-over as over-lts
-use Rattle.walk.proofs.bodies.parallel.Reads as parallel
-use Rattle.walk.proofs.bodies.+bodies.Lts-parallel as parallel-lts
-use Rattle.walk.proofs.bodies.bound.Reads as bound
-use Rattle.walk.proofs.bodies.+bodies.Lts-bound as bound-lts
-use Rattle.walk.proofs.bodies.redo.Reads as redo
-use Rattle.walk.proofs.bodies.+bodies.Lts-redo as redo-lts
-use Rattle.walk.proofs.bodies.assign_all.Reads as assign-all
-use Rattle.walk.proofs.bodies.+bodies.Lts-assign_all as assign-all-lts
-use Rattle.walk.proofs.bodies.chain.Reads as chain
-use Rattle.walk.proofs.bodies.+bodies.Lts-chain as chain-lts
-use Rattle.walk.proofs.bodies.tail.Reads as tail
-use Rattle.walk.proofs.bodies.+bodies.Lts-tail as tail-lts
-use Rattle.walk.proofs.bodies.moved.Reads as moved
-use Rattle.walk.proofs.bodies.+bodies.Lts-moved as moved-lts
-use Rattle.walk.proofs.bodies.+bodies.Answers.Base.{args-bodyform-calls, lets-calls, both-calls, assign-calls, assign-one-calls, bind-calls, binds-calls, call-calls, rest-calls, complex-calls, nested-calls, either-calls, each-calls, in-bodyform-calls, in-lambda-calls, in-let-calls, lambda-calls, named-calls, sorted-calls, over-calls, parallel-calls, bound-calls, redo-calls, assign-all-calls, chain-calls, tail-calls, moved-calls}
-use Rattle.walk.proofs.bodies.+bodies.Answers.NeedsArgsBodyform as args-bodyform-needs
-use Rattle.walk.proofs.bodies.+bodies.Answers.NeedsLets as lets-needs
-use Rattle.walk.proofs.bodies.+bodies.Answers.NeedsBoth as both-needs
-use Rattle.walk.proofs.bodies.+bodies.Answers.NeedsAssign as assign-needs
-use Rattle.walk.proofs.bodies.+bodies.Answers.NeedsAssignOne as assign-one-needs
-use Rattle.walk.proofs.bodies.+bodies.Answers.NeedsBind as bind_needs
-use Rattle.walk.proofs.bodies.+bodies.Answers.NeedsBinds as binds-needs
-use Rattle.walk.proofs.bodies.+bodies.Answers.NeedsCall as Call-needs
-use Rattle.walk.proofs.bodies.+bodies.Answers.NeedsRest as rest-needs
-use Rattle.walk.proofs.bodies.+bodies.Answers.NeedsComplex as complex-needs
-use Rattle.walk.proofs.bodies.+bodies.Answers.NeedsNested as nested-needs
-use Rattle.walk.proofs.bodies.+bodies.Answers.NeedsEither as either-needs
-use Rattle.walk.proofs.bodies.+bodies.Answers.NeedsEach as each-needs
-use Rattle.walk.proofs.bodies.+bodies.Answers.NeedsInBodyform as in-bodyform-needs
-use Rattle.walk.proofs.bodies.+bodies.Answers.NeedsInLambda as in-lambda-needs
-use Rattle.walk.proofs.bodies.+bodies.Answers.NeedsInLet as in-let-needs
-use Rattle.walk.proofs.bodies.+bodies.Answers.NeedsLambda as lambda-needs
-use Rattle.walk.proofs.bodies.+bodies.Answers.NeedsNamed as named-needs
-use Rattle.walk.proofs.bodies.+bodies.Answers.NeedsSorted as sorted-needs
-use Rattle.walk.proofs.bodies.+bodies.Answers.NeedsOver as over-needs
-use Rattle.walk.proofs.bodies.+bodies.Answers.NeedsParallel as parallel-needs
-use Rattle.walk.proofs.bodies.+bodies.Answers.NeedsBound as bound-needs
-use Rattle.walk.proofs.bodies.+bodies.Answers.NeedsRedo as redo-needs
-use Rattle.walk.proofs.bodies.+bodies.Answers.NeedsAssignAll as assign-all-needs
-use Rattle.walk.proofs.bodies.+bodies.Answers.NeedsChain as chain-needs
-use Rattle.walk.proofs.bodies.+bodies.Answers.NeedsTail as tail_needs
-use Rattle.walk.proofs.bodies.+bodies.Answers.NeedsMoved as moved-needs
+-- Own and In-body meet their contracts. What falls is 16 times the levels that are left, and the phase. Assumes nothing.
+use native.Mathlib.Omega.{arith}
+use mathlib.Core.Path.{ap}
+use Rattle.records.specs.Records.{Parallel, Sequential, Assign}
+use Rattle.std.specs.declared.result.Result.TheVariants.{Err}
+use borrow.Author.Rules.{rules}
+use Rattle.records.specs.declared.BodyMark.TheVariants.{Let, Quoted, Call, Mod, Lambda}
+use Rattle.records.proofs.Marks.{body_placed, body_other}
+use Rattle.walk.proofs.Dispatch.{binder_marked, quoted_marked, call_marked, mod_marked, lambda_marked, kept_marked, value_marked, walks_as, asks_kept, asks_kind, own_keeps, in_keeps, in_renames}
+use Rattle.walk.proofs.Results.{ready_as}
+use Rattle.walk.proofs.LetKinds.{kind_there, ready_kind, ready_parallel, walks_kind, is_parallel, is_sequential, is_assign}
+use Rattle.walk.proofs.BothLaws as both_laws
+use Rattle.walk.proofs.CallLaws as call_laws
+use Rattle.walk.proofs.Turns as each_laws
+use Rattle.walk.proofs.TailLaws as tail_laws
+use Rattle.walk.proofs.LetParallel as parallel_laws
+use Rattle.walk.proofs.LetPatterned as bound_laws
+use Rattle.walk.proofs.LetMiddle.{loop_starts, loop_ends, turn}
+use Rattle.walk.proofs.LetTurns as turn_laws
+use Rattle.walk.proofs.BindLaws as bind_laws
+use Rattle.walk.proofs.LetInBody as in_let_laws
+use Rattle.std.proofs.lemmas.Result.{err_from_is_err_and}
 use Rattle.walk.proofs.bodies.+bodies.Goals as goal
-use mathlib.Core.List.{[]}
-
-pub args_bodyform-body_mark-k-requires : goal.args_bodyform-body_mark-k-requires
-args_bodyform-body_mark-k-requires t c = args-bodyform-needs.body-mark-requires t c ([], tt)
+use mathlib.Core.Logic.{inr}
+use mathlib.Core.Path.{refl, sym}
+use lib.Seq.{length-take-le}
+use Rattle.names.proofs.Frames.{movable_up}
+use Rattle.walk.proofs.AssignLaws as assign_laws
+use Rattle.walk.proofs.AssignTurns as assign_all_laws
+use Rattle.walk.proofs.BindingLaws as assign_one_laws
+use Rattle.walk.proofs.CapturedLaws as rest_laws
+use Rattle.walk.proofs.DesugaredRuns as nested_laws
+use Rattle.walk.proofs.InLambdaLaws as in_lambda_laws
+use Rattle.walk.proofs.LambdaLaws as lambda_laws
+use Rattle.walk.proofs.NamedLaws as named_laws
+use Rattle.walk.proofs.OrderedLaws as sorted_laws
+use Rattle.walk.proofs.RemakeLaws as redo_laws
+use Rattle.walk.proofs.SequentialLaws as chain_laws
+use Rattle.walk.proofs.TurnedLaws as moved_laws
 
 pub args_bodyform-lets-requires : goal.args_bodyform-lets-requires
-args_bodyform-lets-requires t c = args-bodyform-needs.lets-requires t c ([], tt)
+args_bodyform-lets-requires t c = (omega (arith, c.decreases), ready_as c.requires (binder_marked (body_placed c.in-Some-Let.field-0-is c.in-Some-Let.ensures) c.requires.tree c.requires.there refl))
 
 pub args_bodyform-call-requires : goal.args_bodyform-call-requires
-args_bodyform-call-requires t c = args-bodyform-needs.call-requires t c ([], tt)
+args_bodyform-call-requires t c = (omega (arith, c.decreases), ready_as c.requires (call_marked (body_placed c.in-Some-Call.field-0-is c.in-Some-Call.ensures) c.requires.tree c.requires.there refl))
 
 pub args_bodyform-lambda-requires : goal.args_bodyform-lambda-requires
-args_bodyform-lambda-requires t c = args-bodyform-needs.lambda-requires t c ([], tt)
+args_bodyform-lambda-requires t c = (omega (arith, c.decreases), ready_as c.requires (lambda_marked (body_placed c.in-Some-Lambda.field-0-is c.in-Some-Lambda.ensures) c.requires.tree c.requires.there refl))
 
 pub args_bodyform-keep_body-requires : goal.args_bodyform-keep_body-requires
-args_bodyform-keep_body-requires t c = args-bodyform-needs.keep-body-requires t c ([], tt)
+args_bodyform-keep_body-requires t c = asks_kept c.requires
 
-pub args_bodyform-returns-in-0 : goal.args_bodyform-returns-in-0
-args_bodyform-returns-in-0 t c = args-bodyform-needs.returns t c.before
+pub args_bodyform-returns-in-Some-Let : goal.args_bodyform-returns-in-Some-Let
+args_bodyform-returns-in-Some-Let t c = walks_as c.requires (binder_marked (body_placed c.in-Some-Let.field-0-is c.in-Some-Let.ensures) c.requires.tree c.requires.there refl) c.lets.ensures
 
-pub args_bodyform-returns-in-3 : goal.args_bodyform-returns-in-3
-args_bodyform-returns-in-3 t c = args-bodyform-needs.returns-2 t c.before
+pub args_bodyform-returns-in-Some-Call : goal.args_bodyform-returns-in-Some-Call
+args_bodyform-returns-in-Some-Call t c = walks_as c.requires (call_marked (body_placed c.in-Some-Call.field-0-is c.in-Some-Call.ensures) c.requires.tree c.requires.there refl) c.call.ensures
 
-pub args_bodyform-returns-in-5 : goal.args_bodyform-returns-in-5
-args_bodyform-returns-in-5 t c = args-bodyform-needs.returns-3 t c.before
+pub args_bodyform-returns-in-Some-Lambda : goal.args_bodyform-returns-in-Some-Lambda
+args_bodyform-returns-in-Some-Lambda t c = walks_as c.requires (lambda_marked (body_placed c.in-Some-Lambda.field-0-is c.in-Some-Lambda.ensures) c.requires.tree c.requires.there refl) c.lambda.ensures
 
 pub args_bodyform-returns-in_default : goal.args_bodyform-returns-in_default
-args_bodyform-returns-in_default t c = args-bodyform-needs.returns-4 t c.before
+args_bodyform-returns-in_default t c =
+    let e = c.body_mark.ensures in
+    own_keeps c.requires (kept_marked refl c.requires.tree c.requires.there (body_other Let e (search rules)) (body_other Call e (search rules)) (body_other Lambda e (search rules))) c.keep_body.ensures
 
 pub assign-slice_bounds-toposort_assign_bindings-end : goal.assign-slice_bounds-toposort_assign_bindings-end
-assign-slice_bounds-toposort_assign_bindings-end t c = assign-needs.slice-reshare-prefix-toposort-assign-bindings t c
+assign-slice_bounds-toposort_assign_bindings-end t c = assign_laws.cut_fits c.requires
 
 pub assign-slice_bounds-toposort_assign_bindings-end-2 : goal.assign-slice_bounds-toposort_assign_bindings-end-2
-assign-slice_bounds-toposort_assign_bindings-end-2 t c = assign-needs.slice-aggregate-toposort-assign-bindings t c
+assign-slice_bounds-toposort_assign_bindings-end-2 t c = sym (assign_laws.cut_size c.requires)
 
 pub assign-toposort_assign_bindings-o-requires : goal.assign-toposort_assign_bindings-o-requires
-assign-toposort_assign_bindings-o-requires t c = record { s_len_bound = (assign-needs.toposort-assign-bindings-requires t c ([], tt)).0; some_let = (assign-needs.toposort-assign-bindings-requires t c ([], tt)).1 }
+assign-toposort_assign_bindings-o-requires t c = let a = assign_laws.order_asks c.requires in record { s_len_bound = a.0; some_let = a.1 }
 
-pub assign-overflow_add-number : goal.assign-overflow_add-number
-assign-overflow_add-number t c = assign-needs.add-number t c
-
-pub assign-number-requires : goal.assign-number-requires
-assign-number-requires t c = assign-needs.number-requires t c ([], tt)
-
-pub assign-place_at-requires : goal.assign-place_at-requires
-assign-place_at-requires t c = assign-needs.place-at-requires t c tt
-
-pub assign-refusing-requires : goal.assign-refusing-requires
-assign-refusing-requires t c = assign-needs.refusing-requires t c tt
+pub assign-number-loc-requires : goal.assign-number-loc-requires
+assign-number-loc-requires t c = (omega arith, omega (arith, assign_laws.loc_fits c.requires))
 
 pub assign-returns-then-o : goal.assign-returns-then-o
-assign-returns-then-o t c = assign-needs.returns t c
+assign-returns-then-o t c = assign_laws.deadlock_refused c.requires c.toposort_assign_bindings-o.ensures c.if-o.true c.number-loc.ensures.value c.place_at.ensures c.refusing.ensures
 
 pub assign-sorted-requires : goal.assign-sorted-requires
-assign-sorted-requires t c = assign-needs.sorted-requires t c ([], tt)
+assign-sorted-requires t c = (omega (arith, c.decreases), assign_laws.order_known c.requires c.toposort_assign_bindings-o.ensures (omega (arith, c.if-o.false)))
 
-pub assign-returns : goal.assign-returns
-assign-returns t c = assign-needs.returns-2 t c.before
-
-pub assign_all-loop-j-init : goal.assign_all-loop-j-init
-assign_all-loop-j-init t c = assign-all-needs.loop-holds t c.before
-
-pub assign_all-bounds-row-j : goal.assign_all-bounds-row-j
-assign_all-bounds-row-j t c = assign-all-needs.shared-slice-read-i t c.before
-
-pub assign_all-offset_bounds-starts-i : goal.assign_all-offset_bounds-starts-i
-assign_all-offset_bounds-starts-i t c = assign-all-needs.mul_at t c.before
-
-pub assign_all-bounds-starts-i : goal.assign_all-bounds-starts-i
-assign_all-bounds-starts-i t c = assign-all-needs.shared-slice-read-at t c.before
-
-pub assign_all-overflow_add-n : goal.assign_all-overflow_add-n
-assign_all-overflow_add-n t c = assign-all-needs.add-n t c.before
-
-pub assign_all-offset_bounds-starts-i-in-loop-j : goal.assign_all-offset_bounds-starts-i-in-loop-j
-assign_all-offset_bounds-starts-i-in-loop-j t c = assign-all-needs.mul-n t c.before
-
-pub assign_all-bounds-starts-i-in-loop-j : goal.assign_all-bounds-starts-i-in-loop-j
-assign_all-bounds-starts-i-in-loop-j t c = assign-all-needs.shared-slice-read-n t c.before
+pub assign_all-loop-index-init : goal.assign_all-loop-index-init
+assign_all-loop-index-init t c = assign_all_laws.loop_starts
 
 pub assign_all-overflow_sub-n : goal.assign_all-overflow_sub-n
-assign_all-overflow_sub-n t c = assign-all-needs.sub-n t c.before
+assign_all-overflow_sub-n t c = let p = c.requires in omega (arith, assign_all_laws.end_is p (c.loop-index.invariant p) (omega arith))
 
 pub assign_all-slice_bounds-assign_one-count : goal.assign_all-slice_bounds-assign_one-count
-assign_all-slice_bounds-assign_one-count t c = assign-all-needs.sub-assign-one t c.before
+assign_all-slice_bounds-assign_one-count t c =
+    let p = c.requires in
+    let l = c.loop-index.invariant p in
+    omega (arith, assign_all_laws.next_below p l (omega arith), assign_all_laws.next_room p l (omega arith))
 
 pub assign_all-slice_bounds-assign_one-start : goal.assign_all-slice_bounds-assign_one-start
-assign_all-slice_bounds-assign_one-start t c = assign-all-needs.part-assign-one-start t c.before
+assign_all-slice_bounds-assign_one-start t c =
+    let p = c.requires in
+    let l = c.loop-index.invariant p in
+    omega (arith, assign_all_laws.next_below p l (omega arith), assign_all_laws.next_room p l (omega arith))
 
-pub assign_all-slice_bounds-assign_one-end : goal.assign_all-slice_bounds-assign_one-end
-assign_all-slice_bounds-assign_one-end t c = assign-all-needs.part-assign-one-end t c.before
-
-pub assign_all-overflow_sub-t : goal.assign_all-overflow_sub-t
-assign_all-overflow_sub-t t c = assign-all-needs.sub-t25 t c.before
+pub assign_all-overflow_sub-next : goal.assign_all-overflow_sub-next
+assign_all-overflow_sub-next t c = let p = c.requires in omega (arith, assign_all_laws.next_below p (c.loop-index.invariant p) (omega arith))
 
 pub assign_all-assign_one-requires : goal.assign_all-assign_one-requires
-assign_all-assign_one-requires t c = assign-all-needs.assign-one-requires t c.before ([], tt)
+assign_all-assign_one-requires t c = let p = c.requires in (omega (arith, c.decreases), assign_all_laws.next_ready p (c.loop-index.invariant p) (omega arith))
 
-pub assign_all-returns-in-Refused : goal.assign_all-returns-in-Refused
-assign_all-returns-in-Refused t c = assign-all-needs.returns t c.before
+pub assign_all-returns-in_err-one : goal.assign_all-returns-in_err-one
+assign_all-returns-in_err-one t c =
+    let p = c.requires in
+    let e = err_from_is_err_and c.from_residual.result c.from_residual.ensures.1 in
+    rw (e.1, e.2) (assign_all_laws.turn_refused p (c.loop-index.invariant p) (omega arith) c.assign_one.ensures _ c.in_err-one.was)
 
 pub assign_all-overflow_sub-top : goal.assign_all-overflow_sub-top
-assign_all-overflow_sub-top t c = assign-all-needs.sub-top t c.before
+assign_all-overflow_sub-top t c = let p = c.requires in omega (arith, assign_all_laws.top_room p (c.loop-index.invariant p) (omega arith) c.assign_one.ensures c.in_ok-one.was)
 
 pub assign_all-copy-requires : goal.assign_all-copy-requires
-assign_all-copy-requires t c = assign-all-needs.copy-requires t c.before ([], tt)
+assign_all-copy-requires t c =
+    let p = c.requires in
+    let l = c.loop-index.invariant p in
+    let n = assign_all_laws.move_fits p l (omega arith) c.assign_one.ensures c.in_ok-one.was in
+    let o = assign_all_laws.top_low p l in
+    record { source = omega (arith, n); target = omega (arith, n, o); safe = inr (omega (arith, o)) }
 
-pub assign_all-overflow_add-j : goal.assign_all-overflow_add-j
-assign_all-overflow_add-j t c = assign-all-needs.add-j t c.before
-
-pub assign_all-loop-j-smaller : goal.assign_all-loop-j-smaller
-assign_all-loop-j-smaller t c = assign-all-needs.loop-less t c.before
-
-pub assign_all-loop-j-preserved : goal.assign_all-loop-j-preserved
-assign_all-loop-j-preserved t c = assign-all-needs.loop-again t c.before
+pub assign_all-loop-index-preserved : goal.assign_all-loop-index-preserved
+assign_all-loop-index-preserved t c = λ p. assign_all_laws.turn_done p (c.loop-index.invariant p) (omega arith) c.assign_one.ensures c.in_ok-one.was c.copy.ensures
 
 pub assign_all-overflow_sub-result : goal.assign_all-overflow_sub-result
-assign_all-overflow_sub-result t c = assign-all-needs.sub-t34 t c.before
+assign_all-overflow_sub-result t c = let p = c.requires in omega (arith, assign_all_laws.top_low p (c.loop-index.invariant p))
 
 pub assign_all-returns : goal.assign_all-returns
-assign_all-returns t c = assign-all-needs.returns-2 t c.before
+assign_all-returns t c = let p = c.requires in assign_all_laws.loop_ends p (c.loop-index.invariant p) (omega arith)
 
 pub assign_one-bounds-mem-10 : goal.assign_one-bounds-mem-10
-assign_one-bounds-mem-10 t c = assign-one-needs.slice-read-if1 t c.before
+assign_one-bounds-mem-10 t c = let h = assign_one_laws.head_fits c.requires in omega (arith, h)
 
 pub assign_one-copy-requires : goal.assign_one-copy-requires
-assign_one-copy-requires t c = assign-one-needs.copy-requires t c ([], tt)
+assign_one-copy-requires t c = let h = assign_one_laws.head_fits c.requires in movable_up (omega (arith, h.1)) (omega (arith, h.2, h.3))
 
 pub assign_one-returns-then-mem-eq0 : goal.assign_one-returns-then-mem-eq0
-assign_one-returns-then-mem-eq0 t c = assign-one-needs.returns t c.before
-
-pub assign_one-overflow_add-at : goal.assign_one-overflow_add-at
-assign_one-overflow_add-at t c = assign-one-needs.add_at t c.before
+assign_one-returns-then-mem-eq0 t c = assign_one_laws.name_made c.requires c.if-mem-eq0.true c.copy.ensures
 
 pub assign_one-copy-requires-2 : goal.assign_one-copy-requires-2
-assign_one-copy-requires-2 t c = assign-one-needs.copy-requires-2 t c ([], tt)
-
-pub assign_one-slice_bounds-complex-count : goal.assign_one-slice_bounds-complex-count
-assign_one-slice_bounds-complex-count t c = assign-one-needs.sub-complex t c.before
-
-pub assign_one-slice_bounds-complex-start : goal.assign_one-slice_bounds-complex-start
-assign_one-slice_bounds-complex-start t c = assign-one-needs.part-complex-start t c.before
-
-pub assign_one-slice_bounds-complex-end : goal.assign_one-slice_bounds-complex-end
-assign_one-slice_bounds-complex-end t c = assign-one-needs.part-complex-end t c.before
+assign_one-copy-requires-2 t c = let h = assign_one_laws.head_fits c.requires in movable_up (omega (arith, h.0, h.1)) (omega (arith, h.0, h.2, h.3))
 
 pub assign_one-complex-requires : goal.assign_one-complex-requires
-assign_one-complex-requires t c = assign-one-needs.complex-requires t c ([], tt)
+assign_one-complex-requires t c = (omega (arith, c.decreases), assign_one_laws.complex_ready c.requires c.if-mem-eq0.false c.copy-2.ensures)
+
+pub assign_one-returns-in_err-m : goal.assign_one-returns-in_err-m
+assign_one-returns-in_err-m t c =
+    let e = err_from_is_err_and c.from_residual.result c.from_residual.ensures.1 in
+    rw (e.1, e.2) (assign_one_laws.binding_refused c.requires c.if-mem-eq0.false c.copy-2.ensures c.complex.ensures _ c.in_err-m.was)
 
 pub assign_one-overflow_add-result : goal.assign_one-overflow_add-result
-assign_one-overflow_add-result t c = assign-one-needs.add-t26 t c.before
+assign_one-overflow_add-result t c = let p = c.requires in omega (arith, p.ready.longest, assign_one_laws.binding_short p c.if-mem-eq0.false c.copy-2.ensures c.complex.ensures c.in_ok-m.was)
 
-pub assign_one-returns-in-Refused : goal.assign_one-returns-in-Refused
-assign_one-returns-in-Refused t c = assign-one-needs.returns-2 t c.before
-
-pub assign_one-returns-in-Done : goal.assign_one-returns-in-Done
-assign_one-returns-in-Done t c = assign-one-needs.returns-3 t c.before
-
-pub bind-slice_bounds-args_bodyform-count : goal.bind-slice_bounds-args_bodyform-count
-bind-slice_bounds-args_bodyform-count t c = bind_needs.sub-args-bodyform t c.before
-
-pub bind-slice_bounds-args_bodyform-start : goal.bind-slice_bounds-args_bodyform-start
-bind-slice_bounds-args_bodyform-start t c = bind_needs.part-args-bodyform-start t c.before
-
-pub bind-slice_bounds-args_bodyform-end : goal.bind-slice_bounds-args_bodyform-end
-bind-slice_bounds-args_bodyform-end t c = bind_needs.part-args-bodyform-end t c.before
-
-pub bind-args_bodyform-requires : goal.bind-args_bodyform-requires
-bind-args_bodyform-requires t c = bind_needs.args-bodyform-requires t c ([], tt)
+pub assign_one-returns : goal.assign_one-returns
+assign_one-returns t c = assign_one_laws.binding_done c.requires c.if-mem-eq0.false c.copy-2.ensures c.complex.ensures c.in_ok-m.was
 
 pub bind-returns-then-owning : goal.bind-returns-then-owning
-bind-returns-then-owning t c = bind_needs.returns t c.before
-
-pub bind-slice_bounds-in_bodyform-count : goal.bind-slice_bounds-in_bodyform-count
-bind-slice_bounds-in_bodyform-count t c = bind_needs.sub-in-bodyform t c.before
-
-pub bind-slice_bounds-in_bodyform-start : goal.bind-slice_bounds-in_bodyform-start
-bind-slice_bounds-in_bodyform-start t c = bind_needs.part-in-bodyform-start t c.before
-
-pub bind-slice_bounds-in_bodyform-end : goal.bind-slice_bounds-in_bodyform-end
-bind-slice_bounds-in_bodyform-end t c = bind_needs.part-in-bodyform-end t c.before
-
-pub bind-in_bodyform-requires : goal.bind-in_bodyform-requires
-bind-in_bodyform-requires t c = bind_needs.in-bodyform-requires t c ([], tt)
+bind-returns-then-owning t c = λ p. bind_laws.own_bound p c.if-owning.true c.args_bodyform.ensures
 
 pub bind-returns : goal.bind-returns
-bind-returns t c = bind_needs.returns-2 t c.before
+bind-returns t c = λ p. bind_laws.in_bound p c.if-owning.false c.in_bodyform.ensures
 
-pub binds-loop-i-init : goal.binds-loop-i-init
-binds-loop-i-init t c = binds-needs.loop-holds t c.before
+pub binds-loop-init : goal.binds-loop-init
+binds-loop-init t c = λ p. loop_starts p
 
 pub binds-overflow_add-at : goal.binds-overflow_add-at
-binds-overflow_add-at t c = binds-needs.add-past-pattern t c
+binds-overflow_add-at t c =
+    let u = turn c.requires (c.loop.invariant c.requires) c.loop-test.true in
+    omega (arith, (turn_laws.pattern_at u).fits, u.mid.frame.size, c.well_formed)
 
 pub binds-past_pattern-body-requires : goal.binds-past_pattern-body-requires
-binds-past_pattern-body-requires t c = binds-needs.past-pattern-requires t c ([], tt)
+binds-past_pattern-body-requires t c =
+    let u = turn c.requires (c.loop.invariant c.requires) c.loop-test.true in
+    omega (arith, (turn_laws.pattern_at u).fits)
 
 pub binds-put_head-n-requires : goal.binds-put_head-n-requires
-binds-put_head-n-requires t c = binds-needs.put-head-requires t c ([], tt)
+binds-put_head-n-requires t c = turn_laws.head_ready (turn c.requires (c.loop.invariant c.requires) c.loop-test.true) c.past_pattern-body.ensures
 
 pub binds-overflow_add-to : goal.binds-overflow_add-to
-binds-overflow_add-to t c = binds-needs.add-to t c.before
+binds-overflow_add-to t c =
+    let u = turn c.requires (c.loop.invariant c.requires) c.loop-test.true in
+    omega (arith, turn_laws.wide u, turn_laws.ends u, (turn_laws.w u c.past_pattern-body.ensures c.put_head-n.ensures).size, u.mid.frame.size, c.well_formed)
 
 pub binds-overflow_sub-pattern : goal.binds-overflow_sub-pattern
-binds-overflow_sub-pattern t c = binds-needs.sub-pattern t c.before
+binds-overflow_sub-pattern t c =
+    let u = turn c.requires (c.loop.invariant c.requires) c.loop-test.true in
+    omega (arith, turn_laws.head_wrote u c.past_pattern-body.ensures c.put_head-n.ensures)
 
 pub binds-overflow_add-pattern : goal.binds-overflow_add-pattern
-binds-overflow_add-pattern t c = binds-needs.add-pattern t c.before
+binds-overflow_add-pattern t c =
+    let u = turn c.requires (c.loop.invariant c.requires) c.loop-test.true in
+    omega (arith, turn_laws.patterns_fit u c.past_pattern-body.ensures c.put_head-n.ensures, u.mid.frame.size, c.well_formed)
 
-pub binds-overflow_sub-to : goal.binds-overflow_sub-to
-binds-overflow_sub-to t c = binds-needs.sub-t22 t c
+pub binds-overflow_sub-free : goal.binds-overflow_sub-free
+binds-overflow_sub-free t c =
+    let u = turn c.requires (c.loop.invariant c.requires) c.loop-test.true in
+    omega (arith, turn_laws.place u c.past_pattern-body.ensures c.put_head-n.ensures)
 
 pub binds-bind-requires : goal.binds-bind-requires
-binds-bind-requires t c = binds-needs.bind-requires t c ([], tt)
+binds-bind-requires t c =
+    let u = turn c.requires (c.loop.invariant c.requires) c.loop-test.true in
+    (omega (arith, c.decreases), turn_laws.bind_ready u c.past_pattern-body.ensures c.put_head-n.ensures)
 
-pub binds-returns-in-Refused : goal.binds-returns-in-Refused
-binds-returns-in-Refused t c = binds-needs.returns t c.before
+pub binds-returns-in_err-s : goal.binds-returns-in_err-s
+binds-returns-in_err-s t c =
+    λ p.
+    let u = turn p (c.loop.invariant p) c.loop-test.true in
+    let e = err_from_is_err_and c.from_residual.result c.from_residual.ensures.1 in
+    rw (e.1, e.2) (turn_laws.turn_refused u c.past_pattern-body.ensures c.put_head-n.ensures c.bind.ensures _ c.in_err-s.was)
 
 pub binds-overflow_add-sum : goal.binds-overflow_add-sum
-binds-overflow_add-sum t c = binds-needs.add-sum t c.before
-
-pub binds-placeless-requires : goal.binds-placeless-requires
-binds-placeless-requires t c = binds-needs.placeless-requires t c.before tt
+binds-overflow_add-sum t c =
+    let u = turn c.requires (c.loop.invariant c.requires) c.loop-test.true in
+    omega (arith, turn_laws.turn_short u c.past_pattern-body.ensures c.put_head-n.ensures c.bind.ensures _ _ _ c.in_ok-s.was, u.mid.within, c.requires.longest)
 
 pub binds-returns-then-t-sum : goal.binds-returns-then-t-sum
-binds-returns-then-t-sum t c = binds-needs.returns-2 t c.before
+binds-returns-then-t-sum t c = λ p.
+    let u = turn p (c.loop.invariant p) c.loop-test.true in
+    turn_laws.turn_over u c.past_pattern-body.ensures c.put_head-n.ensures c.bind.ensures _ _ _ c.in_ok-s.was _ c.over_long.ensures c.if-t-sum.true
 
-pub binds-overflow_add-at-in-Done : goal.binds-overflow_add-at-in-Done
-binds-overflow_add-at-in-Done t c = binds-needs.add_at t c.before
+pub binds-overflow_add-at-in-loop : goal.binds-overflow_add-at-in-loop
+binds-overflow_add-at-in-loop t c =
+    let u = turn c.requires (c.loop.invariant c.requires) c.loop-test.true in
+    omega (
+      arith,
+      turn_laws.turn_read u c.past_pattern-body.ensures c.put_head-n.ensures c.bind.ensures _ _ _ c.in_ok-s.was,
+      turn_laws.low u,
+      turn_laws.low_to u,
+      turn_laws.wide u,
+      turn_laws.ends u,
+      u.mid.frame.size,
+      c.well_formed,
+    )
 
-pub binds-overflow_add-to-in-Done : goal.binds-overflow_add-to-in-Done
-binds-overflow_add-to-in-Done t c = binds-needs.add-to-2 t c.before
+pub binds-overflow_add-to-in-loop : goal.binds-overflow_add-to-in-loop
+binds-overflow_add-to-in-loop t c =
+    let u = turn c.requires (c.loop.invariant c.requires) c.loop-test.true in
+    omega (arith, turn_laws.turn_wrote u c.past_pattern-body.ensures c.put_head-n.ensures c.bind.ensures _ _ _ c.in_ok-s.was, u.mid.frame.size, c.well_formed)
 
-pub binds-overflow_add-i : goal.binds-overflow_add-i
-binds-overflow_add-i t c = binds-needs.add-i t c.before
-
-pub binds-loop-i-smaller : goal.binds-loop-i-smaller
-binds-loop-i-smaller t c = binds-needs.loop-less t c.before
-
-pub binds-loop-i-preserved : goal.binds-loop-i-preserved
-binds-loop-i-preserved t c = binds-needs.loop-again t c.before
+pub binds-loop-preserved : goal.binds-loop-preserved
+binds-loop-preserved t c = λ p.
+    let u = turn p (c.loop.invariant p) c.loop-test.true in
+    turn_laws.turn_done u c.past_pattern-body.ensures c.put_head-n.ensures c.bind.ensures _ _ _ c.in_ok-s.was (omega (arith, c.if-t-sum.false))
 
 pub binds-overflow_sub-result : goal.binds-overflow_sub-result
-binds-overflow_sub-result t c = binds-needs.sub-t31 t c
+binds-overflow_sub-result t c = omega (arith, (c.loop.invariant c.requires).mid.writes)
 
 pub binds-returns : goal.binds-returns
-binds-returns t c = binds-needs.returns-3 t c
-
-pub both-overflow_sub-top : goal.both-overflow_sub-top
-both-overflow_sub-top t c = both-needs.sub-top t c.before
-
-pub both-slice_bounds-args_bodyform-end : goal.both-slice_bounds-args_bodyform-end
-both-slice_bounds-args_bodyform-end t c = both-needs.slice-relend-prefix-args-bodyform t c.before
-
-pub both-slice_bounds-args_bodyform-end-2 : goal.both-slice_bounds-args_bodyform-end-2
-both-slice_bounds-args_bodyform-end-2 t c = both-needs.slice-aggregate-args-bodyform t c
+binds-returns t c = λ p. loop_ends p (c.loop.invariant p) (omega (arith, c.loop-test.false))
 
 pub both-args_bodyform-requires : goal.both-args_bodyform-requires
-both-args_bodyform-requires t c = both-needs.args-bodyform-requires t c ([], tt)
+both-args_bodyform-requires t c = (omega (arith, c.decreases), both_laws.own_ready c.requires)
+
+pub both-returns-in_err-own : goal.both-returns-in_err-own
+both-returns-in_err-own t c =
+    let e = err_from_is_err_and c.from_residual.result c.from_residual.ensures.1 in
+    rw (e.1, e.2) (both_laws.own_refused c.requires c.args_bodyform.ensures _ c.in_err-own.was)
 
 pub both-overflow_add-sum : goal.both-overflow_add-sum
-both-overflow_add-sum t c = both-needs.add-if1 t c.before
-
-pub both-placeless-requires : goal.both-placeless-requires
-both-placeless-requires t c = both-needs.placeless-requires t c.before tt
+both-overflow_add-sum t c = omega (arith, both_laws.own_short c.requires c.args_bodyform.ensures _ _ _ c.in_ok-own.was, c.requires.held, c.requires.ready.longest)
 
 pub both-returns-then-t-sum : goal.both-returns-then-t-sum
-both-returns-then-t-sum t c = both-needs.returns t c.before
+both-returns-then-t-sum t c = both_laws.own_too_long c.requires c.args_bodyform.ensures _ _ _ c.in_ok-own.was _ c.over_long.ensures c.if-t-sum.true
 
 pub both-over-requires : goal.both-over-requires
-both-over-requires t c = both-needs.over-requires t c ([], tt)
+both-over-requires t c = (omega (arith, c.decreases), both_laws.then_ready c.requires c.args_bodyform.ensures _ _ _ c.in_ok-own.was (omega (arith, c.if-t-sum.false)))
 
-pub both-returns-in-Refused : goal.both-returns-in-Refused
-both-returns-in-Refused t c = both-needs.returns-2 t c.before
+pub both-returns : goal.both-returns
+both-returns t c = both_laws.both_over c.requires c.args_bodyform.ensures _ _ _ c.in_ok-own.was (omega (arith, c.if-t-sum.false)) c.over.ensures
 
-pub both-returns-else-t-sum : goal.both-returns-else-t-sum
-both-returns-else-t-sum t c = both-needs.returns-3 t c.before
-
-pub bound-copy-requires : goal.bound-copy-requires
-bound-copy-requires t c = bound-needs.copy-requires t c ([], tt)
-
-pub bound-slice_bounds-binds-count : goal.bound-slice_bounds-binds-count
-bound-slice_bounds-binds-count t c = bound-needs.sub-binds t c.before
-
-pub bound-slice_bounds-binds-start : goal.bound-slice_bounds-binds-start
-bound-slice_bounds-binds-start t c = bound-needs.part-binds-start t c.before
-
-pub bound-slice_bounds-binds-end : goal.bound-slice_bounds-binds-end
-bound-slice_bounds-binds-end t c = bound-needs.part-binds-end t c.before
-
-pub bound-overflow_sub-aside : goal.bound-overflow_sub-aside
-bound-overflow_sub-aside t c = bound-needs.sub-binds-2 t c
-
-pub bound-overflow_sub-t : goal.bound-overflow_sub-t
-bound-overflow_sub-t t c = bound-needs.sub-t27 t c
+pub bound-overflow_sub-depth : goal.bound-overflow_sub-depth
+bound-overflow_sub-depth t c = bound_laws.deep c.requires
 
 pub bound-binds-requires : goal.bound-binds-requires
-bound-binds-requires t c = bound-needs.binds-requires t c ([], tt)
+bound-binds-requires t c = (omega (arith, c.decreases, bound_laws.deep c.requires), bound_laws.all_ready c.requires c.copy.ensures)
+
+pub bound-returns-in_err-all : goal.bound-returns-in_err-all
+bound-returns-in_err-all t c =
+    λ p.
+    let e = err_from_is_err_and c.from_residual.result c.from_residual.ensures.1 in
+    rw (e.1, e.2) (bound_laws.bindings_refused p c.copy.ensures c.binds.ensures _ c.in_err-all.was)
 
 pub bound-overflow_add-q : goal.bound-overflow_add-q
-bound-overflow_add-q t c = bound-needs.add-q t c.before
+bound-overflow_add-q t c = omega (arith, bound_laws.reads c.requires c.copy.ensures c.binds.ensures _ _ _ _ c.in_ok-all.was, c.well_formed)
+
+pub bound-overflow_add-w : goal.bound-overflow_add-w
+bound-overflow_add-w t c = omega (arith, bound_laws.written c.requires c.copy.ensures c.binds.ensures _ _ _ _ c.in_ok-all.was, c.well_formed)
+
+pub bound-overflow_add-behind : goal.bound-overflow_add-behind
+bound-overflow_add-behind t c = omega (arith, bound_laws.written c.requires c.copy.ensures c.binds.ensures _ _ _ _ c.in_ok-all.was, c.well_formed)
+
+pub bound-overflow_sub-behind : goal.bound-overflow_sub-behind
+bound-overflow_sub-behind t c = omega (arith, bound_laws.past c.requires c.copy.ensures c.binds.ensures _ _ _ _ c.in_ok-all.was)
 
 pub bound-slice_bounds-both-count : goal.bound-slice_bounds-both-count
-bound-slice_bounds-both-count t c = bound-needs.sub-both t c.before
+bound-slice_bounds-both-count t c = omega (arith, bound_laws.reads c.requires c.copy.ensures c.binds.ensures _ _ _ _ c.in_ok-all.was)
 
 pub bound-slice_bounds-both-start : goal.bound-slice_bounds-both-start
-bound-slice_bounds-both-start t c = bound-needs.part-both-start t c.before
-
-pub bound-slice_bounds-both-end : goal.bound-slice_bounds-both-end
-bound-slice_bounds-both-end t c = bound-needs.part-both-end t c.before
-
-pub bound-overflow_add-free : goal.bound-overflow_add-free
-bound-overflow_add-free t c = bound-needs.add-t35 t c
-
-pub bound-overflow_add-free-in-Done : goal.bound-overflow_add-free-in-Done
-bound-overflow_add-free-in-Done t c = bound-needs.add-t36 t c
-
-pub bound-overflow_sub-free : goal.bound-overflow_sub-free
-bound-overflow_sub-free t c = bound-needs.sub-t37 t c
-
-pub bound-overflow_sub-t-in-Done : goal.bound-overflow_sub-t-in-Done
-bound-overflow_sub-t-in-Done t c = bound-needs.sub-t38 t c
+bound-slice_bounds-both-start t c = omega (arith, bound_laws.reads c.requires c.copy.ensures c.binds.ensures _ _ _ _ c.in_ok-all.was)
 
 pub bound-both-requires : goal.bound-both-requires
-bound-both-requires t c = bound-needs.both-requires t c ([], tt)
+bound-both-requires t c =
+    (omega (arith, c.decreases, bound_laws.deep c.requires), bound_laws.both_ready c.requires c.copy.ensures c.binds.ensures _ _ _ _ c.in_ok-all.was)
 
-pub bound-overflow_add-q-in-Done-both : goal.bound-overflow_add-q-in-Done-both
-bound-overflow_add-q-in-Done-both t c = bound-needs.add-finished t c.before
+pub bound-returns-in_err-body : goal.bound-returns-in_err-body
+bound-returns-in_err-body t c =
+    λ p.
+    let e = err_from_is_err_and c.from_residual-in_err-body.result c.from_residual-in_err-body.ensures.1 in
+    rw (e.1, e.2) (bound_laws.body_refused p c.copy.ensures c.binds.ensures _ _ _ _ c.in_ok-all.was c.both.ensures _ c.in_err-body.was)
 
-pub bound-overflow_add-first : goal.bound-overflow_add-first
-bound-overflow_add-first t c = bound-needs.add-finished-2 t c.before
+pub bound-overflow_add-q-2 : goal.bound-overflow_add-q-2
+bound-overflow_add-q-2 t c =
+    let p = c.requires in
+    omega (arith, (bound_laws.body_sizes p c.copy.ensures c.binds.ensures _ _ _ _ c.in_ok-all.was c.both.ensures _ _ _ _ c.in_ok-body.was).0, p.room, bound_laws.aside_end p, c.well_formed)
 
-pub bound-overflow_add-first-in-Done-both : goal.bound-overflow_add-first-in-Done-both
-bound-overflow_add-first-in-Done-both t c = bound-needs.add-finished-3 t c.before
+pub bound-overflow_add-w-2 : goal.bound-overflow_add-w-2
+bound-overflow_add-w-2 t c =
+    omega (arith, (bound_laws.body_sizes c.requires c.copy.ensures c.binds.ensures _ _ _ _ c.in_ok-all.was c.both.ensures _ _ _ _ c.in_ok-body.was).1, c.well_formed)
 
-pub bound-finished-requires : goal.bound-finished-requires
-bound-finished-requires t c = bound-needs.finished-requires t c.before tt
-
-pub bound-returns-in-Refused : goal.bound-returns-in-Refused
-bound-returns-in-Refused t c = bound-needs.returns t c.before
-
-pub bound-returns-in-Refused-both : goal.bound-returns-in-Refused-both
-bound-returns-in-Refused-both t c = bound-needs.returns-2 t c.before
-
-pub bound-returns-in-Done-both : goal.bound-returns-in-Done-both
-bound-returns-in-Done-both t c = bound-needs.returns-3 t c.before
-
-pub call-call_view-v-requires : goal.call-call_view-v-requires
-call-call_view-v-requires t c = Call-needs.call-view-requires t c ([], tt)
+pub bound-returns : goal.bound-returns
+bound-returns t c =
+    λ p. bound_laws.let_finished p c.copy.ensures c.binds.ensures _ _ _ _ c.in_ok-all.was c.both.ensures _ _ _ _ c.in_ok-body.was c.finished.ensures
 
 pub call-copy-requires : goal.call-copy-requires
-call-copy-requires t c = Call-needs.copy-requires t c ([], tt)
+call-copy-requires t c = call_laws.head_moves c.call_view-v.ensures c.requires
 
-pub call-slice_bounds-each-count : goal.call-slice_bounds-each-count
-call-slice_bounds-each-count t c = Call-needs.sub_each t c.before
-
-pub call-slice_bounds-each-start : goal.call-slice_bounds-each-start
-call-slice_bounds-each-start t c = Call-needs.part-each-start t c.before
-
-pub call-slice_bounds-each-end : goal.call-slice_bounds-each-end
-call-slice_bounds-each-end t c = Call-needs.part-each-end t c.before
-
-pub call-overflow_sub-t : goal.call-overflow_sub-t
-call-overflow_sub-t t c = Call-needs.sub-t28 t c
+pub call-overflow_sub-below : goal.call-overflow_sub-below
+call-overflow_sub-below t c = call_laws.levels c.call_view-v.ensures c.requires
 
 pub call-each-requires : goal.call-each-requires
-call-each-requires t c = Call-needs.each-requires t c ([], tt)
+call-each-requires t c = (omega (arith, c.decreases, call_laws.levels c.call_view-v.ensures c.requires), call_laws.elements_ready c.call_view-v.ensures c.requires c.copy.ensures)
+
+pub call-returns-in_err-all : goal.call-returns-in_err-all
+call-returns-in_err-all t c =
+    let e = err_from_is_err_and c.from_residual.result c.from_residual.ensures.1 in
+    rw (e.1, e.2) (call_laws.elements_refused c.call_view-v.ensures c.requires c.copy.ensures c.each.ensures _ c.in_err-all.was)
 
 pub call-overflow_add-q : goal.call-overflow_add-q
-call-overflow_add-q t c = Call-needs.add-q t c.before
+call-overflow_add-q t c =
+    omega (arith, call_laws.tail_starts c.call_view-v.ensures c.requires c.copy.ensures c.each.ensures _ _ _ _ c.in_ok-all.was, c.well_formed, c.requires.room)
+
+pub call-overflow_add-w : goal.call-overflow_add-w
+call-overflow_add-w t c =
+    omega (arith, call_laws.call_short c.call_view-v.ensures c.requires c.copy.ensures c.each.ensures _ _ _ _ c.in_ok-all.was, c.requires.longest)
+
+pub call-overflow_add-behind : goal.call-overflow_add-behind
+call-overflow_add-behind t c =
+    omega (arith, call_laws.some_wide c.call_view-v.ensures c.requires c.copy.ensures c.each.ensures _ _ _ _ c.in_ok-all.was, c.well_formed)
+
+pub call-overflow_sub-behind : goal.call-overflow_sub-behind
+call-overflow_sub-behind t c =
+    omega (arith, call_laws.tail_starts c.call_view-v.ensures c.requires c.copy.ensures c.each.ensures _ _ _ _ c.in_ok-all.was)
 
 pub call-slice_bounds-tail-count : goal.call-slice_bounds-tail-count
-call-slice_bounds-tail-count t c = Call-needs.sub-tail t c.before
+call-slice_bounds-tail-count t c =
+    let x = c.call_view-v.ensures in
+    let f = c.copy.ensures in
+    let g = c.each.ensures in
+    let e = c.in_ok-all.was in
+    omega (arith, call_laws.tail_starts x c.requires f g _ _ _ _ e, call_laws.some_wide x c.requires f g _ _ _ _ e, (call_laws.middle_frame x c.requires f g).size)
 
 pub call-slice_bounds-tail-start : goal.call-slice_bounds-tail-start
-call-slice_bounds-tail-start t c = Call-needs.part-tail-start t c.before
-
-pub call-slice_bounds-tail-end : goal.call-slice_bounds-tail-end
-call-slice_bounds-tail-end t c = Call-needs.part-tail-end t c.before
-
-pub call-overflow_add-free : goal.call-overflow_add-free
-call-overflow_add-free t c = Call-needs.add-t36 t c
-
-pub call-overflow_add-free-in-Done : goal.call-overflow_add-free-in-Done
-call-overflow_add-free-in-Done t c = Call-needs.add-t37 t c
-
-pub call-overflow_sub-free : goal.call-overflow_sub-free
-call-overflow_sub-free t c = Call-needs.sub-t38 t c
-
-pub call-overflow_sub-t-in-Done : goal.call-overflow_sub-t-in-Done
-call-overflow_sub-t-in-Done t c = Call-needs.sub-t39 t c
+call-slice_bounds-tail-start t c =
+    let x = c.call_view-v.ensures in
+    let f = c.copy.ensures in
+    let g = c.each.ensures in
+    let e = c.in_ok-all.was in
+    omega (arith, call_laws.tail_starts x c.requires f g _ _ _ _ e, call_laws.some_wide x c.requires f g _ _ _ _ e, (call_laws.middle_frame x c.requires f g).size)
 
 pub call-tail-requires : goal.call-tail-requires
-call-tail-requires t c = Call-needs.tail-requires t c ([], tt)
+call-tail-requires t c =
+    let x = c.call_view-v.ensures in
+    (omega (arith, c.decreases, call_laws.levels x c.requires), call_laws.tail_ready x c.requires c.copy.ensures c.each.ensures _ _ _ _ c.in_ok-all.was)
 
-pub call-overflow_add-q-in-Done-tail : goal.call-overflow_add-q-in-Done-tail
-call-overflow_add-q-in-Done-tail t c = Call-needs.add-finished t c.before
+pub call-returns-in_err-last : goal.call-returns-in_err-last
+call-returns-in_err-last t c =
+    let e = err_from_is_err_and c.from_residual-in_err-last.result c.from_residual-in_err-last.ensures.1 in
+    rw (e.1, e.2) (call_laws.tail_refused c.call_view-v.ensures c.requires c.copy.ensures c.each.ensures _ _ _ _ c.in_ok-all.was c.tail.ensures _ c.in_err-last.was)
 
-pub call-overflow_add-at : goal.call-overflow_add-at
-call-overflow_add-at t c = Call-needs.add-finished-2 t c.before
+pub call-overflow_add-q-2 : goal.call-overflow_add-q-2
+call-overflow_add-q-2 t c =
+    omega (arith, call_laws.call_sums c.call_view-v.ensures c.requires c.copy.ensures c.each.ensures _ _ _ _ c.in_ok-all.was c.tail.ensures _ _ _ _ c.in_ok-last.was, c.requires.longest)
 
-pub call-overflow_add-at-in-Done-tail : goal.call-overflow_add-at-in-Done-tail
-call-overflow_add-at-in-Done-tail t c = Call-needs.add-finished-3 t c.before
+pub call-overflow_add-w-2 : goal.call-overflow_add-w-2
+call-overflow_add-w-2 t c =
+    let x = c.call_view-v.ensures in
+    omega (
+      arith,
+      call_laws.call_short x c.requires c.copy.ensures c.each.ensures _ _ _ _ c.in_ok-all.was,
+      call_laws.call_sums x c.requires c.copy.ensures c.each.ensures _ _ _ _ c.in_ok-all.was c.tail.ensures _ _ _ _ c.in_ok-last.was,
+      c.requires.longest,
+    )
 
-pub call-finished-requires : goal.call-finished-requires
-call-finished-requires t c = Call-needs.finished-requires t c.before tt
-
-pub call-returns-in-Refused : goal.call-returns-in-Refused
-call-returns-in-Refused t c = Call-needs.returns t c.before
-
-pub call-returns-in-Refused-tail : goal.call-returns-in-Refused-tail
-call-returns-in-Refused-tail t c = Call-needs.returns-2 t c.before
-
-pub call-returns-in-Done-tail : goal.call-returns-in-Done-tail
-call-returns-in-Done-tail t c = Call-needs.returns-3 t c.before
-
-pub chain-let_view-v-requires : goal.chain-let_view-v-requires
-chain-let_view-v-requires t c = chain-needs.let-view-requires t c ([], tt)
+pub call-returns : goal.call-returns
+call-returns t c =
+    call_laws.call_finished c.call_view-v.ensures c.requires c.copy.ensures c.each.ensures _ _ _ _ c.in_ok-all.was c.tail.ensures _ _ _ _ c.in_ok-last.was c.finished.ensures
 
 pub chain-desugar_sequential_let_bindings-requires : goal.chain-desugar_sequential_let_bindings-requires
-chain-desugar_sequential_let_bindings-requires t c = chain-needs.desugar-sequential-let-bindings-requires t c ([], tt)
+chain-desugar_sequential_let_bindings-requires t c = chain_laws.sequential_asks c.requires
 
-pub chain-slice_bounds-nested-count : goal.chain-slice_bounds-nested-count
-chain-slice_bounds-nested-count t c = chain-needs.sub-nested t c.before
-
-pub chain-slice_bounds-nested-start : goal.chain-slice_bounds-nested-start
-chain-slice_bounds-nested-start t c = chain-needs.part-nested-start t c.before
-
-pub chain-slice_bounds-nested-end : goal.chain-slice_bounds-nested-end
-chain-slice_bounds-nested-end t c = chain-needs.part-nested-end t c.before
+pub chain-returns-in_err-lets : goal.chain-returns-in_err-lets
+chain-returns-in_err-lets t c =
+    let e = err_from_is_err_and c.from_residual.result c.from_residual.ensures.1 in
+    rw (e.1, e.2) (chain_laws.sequential_long c.requires c.desugar_sequential_let_bindings.ensures _ c.in_err-lets.was)
 
 pub chain-nested-requires : goal.chain-nested-requires
-chain-nested-requires t c = chain-needs.nested-requires t c ([], tt)
+chain-nested-requires t c =
+    let p = c.requires in
+    (omega (arith, c.decreases), chain_laws.nested_ready p c.desugar_sequential_let_bindings.ensures _ _ _ c.in_ok-lets.was (chain_laws.seen_count p.tree p.good p.there c.let_view-v.ensures))
 
-pub chain-overflow_add-to : goal.chain-overflow_add-to
-chain-overflow_add-to t c = chain-needs.add-copy t c
+pub chain-returns-in_err-s : goal.chain-returns-in_err-s
+chain-returns-in_err-s t c =
+    let p = c.requires in
+    let n = chain_laws.seen_count p.tree p.good p.there c.let_view-v.ensures in
+    let e = err_from_is_err_and c.from_residual-in_err-s.result c.from_residual-in_err-s.ensures.1 in
+    rw (e.1, e.2) (chain_laws.sequential_refused p c.desugar_sequential_let_bindings.ensures _ _ _ c.in_ok-lets.was n c.nested.ensures _ c.in_err-s.was)
 
 pub chain-copy-requires : goal.chain-copy-requires
-chain-copy-requires t c = chain-needs.copy-requires t c ([], tt)
+chain-copy-requires t c =
+    let p = c.requires in
+    let n = chain_laws.seen_count p.tree p.good p.there c.let_view-v.ensures in
+    chain_laws.sequential_moves p c.desugar_sequential_let_bindings.ensures _ _ _ c.in_ok-lets.was n c.nested.ensures _ _ _ c.in_ok-s.was
 
-pub chain-returns-in-Refused : goal.chain-returns-in-Refused
-chain-returns-in-Refused t c = chain-needs.returns t c.before
-
-pub chain-returns-in-Refused-nested : goal.chain-returns-in-Refused-nested
-chain-returns-in-Refused-nested t c = chain-needs.returns-2 t c.before
-
-pub chain-returns-in-Done-nested : goal.chain-returns-in-Done-nested
-chain-returns-in-Done-nested t c = chain-needs.returns-3 t c.before
+pub chain-returns : goal.chain-returns
+chain-returns t c =
+    let p = c.requires in
+    let n = chain_laws.seen_count p.tree p.good p.there c.let_view-v.ensures in
+    chain_laws.sequential_done p c.desugar_sequential_let_bindings.ensures _ _ _ c.in_ok-lets.was n c.nested.ensures _ _ _ c.in_ok-s.was c.copy.ensures
 
 pub complex-invent_new_names_sexp-requires : goal.complex-invent_new_names_sexp-requires
-complex-invent_new_names_sexp-requires t c = complex-needs.invent-new-names-sexp-requires t c ([], tt)
+complex-invent_new_names_sexp-requires t c = named_laws.drawable c.requires
+
+pub complex-returns-in_err-g : goal.complex-returns-in_err-g
+complex-returns-in_err-g t c =
+    let e = err_from_is_err_and c.from_residual.result c.from_residual.ensures.1 in
+    rw (e.1, e.2) (named_laws.invent_refused c.requires c.invent_new_names_sexp.ensures _ c.in_err-g.was)
 
 pub complex-named-requires : goal.complex-named-requires
-complex-named-requires t c = complex-needs.named-requires t c ([], tt)
+complex-named-requires t c = (omega (arith, c.decreases), named_laws.named_ready c.requires c.invent_new_names_sexp.ensures c.in_ok-g.was)
 
-pub complex-returns-in-Refused : goal.complex-returns-in-Refused
-complex-returns-in-Refused t c = complex-needs.returns t c.before
-
-pub complex-returns-in-Drawn : goal.complex-returns-in-Drawn
-complex-returns-in-Drawn t c = complex-needs.returns-2 t c.before
+pub complex-returns : goal.complex-returns
+complex-returns t c = named_laws.complex_done c.requires c.invent_new_names_sexp.ensures c.in_ok-g.was c.named.ensures
 
 pub each-loop-i-init : goal.each-loop-i-init
-each-loop-i-init t c = each-needs.loop-holds t c.before
-
-pub each-overflow_add-to : goal.each-overflow_add-to
-each-overflow_add-to t c = each-needs.add-to t c
-
-pub each-slice_bounds-either-count : goal.each-slice_bounds-either-count
-each-slice_bounds-either-count t c = each-needs.sub-either t c
-
-pub each-slice_bounds-either-start : goal.each-slice_bounds-either-start
-each-slice_bounds-either-start t c = each-needs.part-either-start t c
-
-pub each-slice_bounds-either-end : goal.each-slice_bounds-either-end
-each-slice_bounds-either-end t c = each-needs.part-either-end t c
-
-pub each-overflow_sub-to : goal.each-overflow_sub-to
-each-overflow_sub-to t c = each-needs.sub-t20 t c
+each-loop-i-init t c = each_laws.loop_starts c.requires
 
 pub each-either-requires : goal.each-either-requires
-each-either-requires t c = each-needs.either-requires t c ([], tt)
+each-either-requires t c = (omega (arith, c.decreases), each_laws.turn_ready c.loop-i.invariant c.loop-i-test.true)
 
-pub each-returns-in-Refused : goal.each-returns-in-Refused
-each-returns-in-Refused t c = each-needs.returns t c.before
+pub each-returns-in_err-s : goal.each-returns-in_err-s
+each-returns-in_err-s t c =
+    let e = err_from_is_err_and c.from_residual.result c.from_residual.ensures.1 in
+    rw (e.1, e.2) (each_laws.turn_refused c.loop-i.invariant c.loop-i-test.true c.either.ensures _ c.in_err-s.was)
 
 pub each-overflow_add-sum : goal.each-overflow_add-sum
-each-overflow_add-sum t c = each-needs.add-if1 t c.before
-
-pub each-placeless-requires : goal.each-placeless-requires
-each-placeless-requires t c = each-needs.placeless-requires t c.before tt
+each-overflow_add-sum t c =
+    let x = c.loop-i.invariant in
+    omega (arith, each_laws.turn_short x c.loop-i-test.true c.either.ensures _ _ _ c.in_ok-s.was, x.held, x.asked.longest)
 
 pub each-returns-then-t-sum : goal.each-returns-then-t-sum
-each-returns-then-t-sum t c = each-needs.returns-2 t c.before
-
-pub each-goes_back-requires : goal.each-goes_back-requires
-each-goes_back-requires t c = each-needs.goes-back-requires t c tt
+each-returns-then-t-sum t c = each_laws.turn_too_long c.loop-i.invariant c.loop-i-test.true c.either.ensures _ _ _ c.in_ok-s.was _ c.over_long.ensures c.if-t-sum.true
 
 pub each-put_back-sum-requires : goal.each-put_back-sum-requires
-each-put_back-sum-requires t c = each-needs.put-back-requires t c ([], tt)
-
-pub each-overflow_add-sum-in-Done : goal.each-overflow_add-sum-in-Done
-each-overflow_add-sum-in-Done t c = each-needs.add-sum t c.before
+each-put_back-sum-requires t c = each_laws.turn_back c.loop-i.invariant c.loop-i-test.true c.either.ensures _ _ _ c.in_ok-s.was _
 
 pub each-overflow_add-at : goal.each-overflow_add-at
-each-overflow_add-at t c = each-needs.add_at t c.before
-
-pub each-overflow_add-i : goal.each-overflow_add-i
-each-overflow_add-i t c = each-needs.add-i t c.before
-
-pub each-loop-i-smaller : goal.each-loop-i-smaller
-each-loop-i-smaller t c = each-needs.loop-less t c.before
+each-overflow_add-at t c = omega (arith, each_laws.turn_read c.loop-i.invariant c.loop-i-test.true c.either.ensures _ _ _ c.in_ok-s.was, c.well_formed)
 
 pub each-loop-i-preserved : goal.each-loop-i-preserved
-each-loop-i-preserved t c = each-needs.loop-again t c.before
+each-loop-i-preserved t c =
+    each_laws.turn_on c.loop-i.invariant c.loop-i-test.true c.either.ensures _ _ _ c.in_ok-s.was (omega (arith, c.if-t-sum.false)) c.goes_back.ensures c.put_back-sum.ensures
 
 pub each-returns : goal.each-returns
-each-returns t c = each-needs.returns-3 t c
-
-pub either-args_bodyform-requires : goal.either-args_bodyform-requires
-either-args_bodyform-requires t c = either-needs.args-bodyform-requires t c ([], tt)
-
-pub either-returns-then-owning : goal.either-returns-then-owning
-either-returns-then-owning t c = either-needs.returns t c.before
-
-pub either-in_bodyform-requires : goal.either-in_bodyform-requires
-either-in_bodyform-requires t c = either-needs.in-bodyform-requires t c ([], tt)
-
-pub either-returns : goal.either-returns
-either-returns t c = either-needs.returns-2 t c.before
-
-pub in_bodyform-body_mark-k-requires : goal.in_bodyform-body_mark-k-requires
-in_bodyform-body_mark-k-requires t c = in-bodyform-needs.body-mark-requires t c ([], tt)
+each-returns t c = each_laws.loop_ends c.loop-i.invariant c.loop-i-test.false
 
 pub in_bodyform-in_let-requires : goal.in_bodyform-in_let-requires
-in_bodyform-in_let-requires t c = in-bodyform-needs.in-let-requires t c ([], tt)
+in_bodyform-in_let-requires t c = (omega (arith, c.decreases), ready_as c.requires (binder_marked (body_placed c.in-Some-Let.field-0-is c.in-Some-Let.ensures) c.requires.tree c.requires.there refl))
 
 pub in_bodyform-rename_quoted-requires : goal.in_bodyform-rename_quoted-requires
-in_bodyform-rename_quoted-requires t c = in-bodyform-needs.rename-quoted-requires t c ([], tt)
+in_bodyform-rename_quoted-requires t c = asks_kind c.requires (quoted_marked (body_placed c.in-Some-Quoted.field-0-is c.in-Some-Quoted.ensures) c.requires.tree c.requires.there refl)
 
 pub in_bodyform-call-requires : goal.in_bodyform-call-requires
-in_bodyform-call-requires t c = in-bodyform-needs.call-requires t c ([], tt)
+in_bodyform-call-requires t c = (omega (arith, c.decreases), ready_as c.requires (call_marked (body_placed c.in-Some-Call.field-0-is c.in-Some-Call.ensures) c.requires.tree c.requires.there refl))
 
 pub in_bodyform-keep_body-requires : goal.in_bodyform-keep_body-requires
-in_bodyform-keep_body-requires t c = in-bodyform-needs.keep-body-requires t c ([], tt)
+in_bodyform-keep_body-requires t c = asks_kept c.requires
 
 pub in_bodyform-in_lambda-requires : goal.in_bodyform-in_lambda-requires
-in_bodyform-in_lambda-requires t c = in-bodyform-needs.in-lambda-requires t c ([], tt)
+in_bodyform-in_lambda-requires t c = (omega (arith, c.decreases), ready_as c.requires (lambda_marked (body_placed c.in-Some-Lambda.field-0-is c.in-Some-Lambda.ensures) c.requires.tree c.requires.there refl))
 
 pub in_bodyform-rename_value-requires : goal.in_bodyform-rename_value-requires
-in_bodyform-rename_value-requires t c = in-bodyform-needs.rename-value-requires t c ([], tt)
+in_bodyform-rename_value-requires t c =
+    let e = c.body_mark.ensures in
+    asks_kind c.requires (value_marked refl c.requires.tree c.requires.there (body_other Let e (search rules)) (body_other Quoted e (search rules)) (body_other Call e (search rules)) (body_other Mod e (search rules)) (body_other Lambda e (search rules)))
 
-pub in_bodyform-returns-in-0 : goal.in_bodyform-returns-in-0
-in_bodyform-returns-in-0 t c = in-bodyform-needs.returns t c.before
+pub in_bodyform-returns-in-Some-Let : goal.in_bodyform-returns-in-Some-Let
+in_bodyform-returns-in-Some-Let t c = walks_as c.requires (binder_marked (body_placed c.in-Some-Let.field-0-is c.in-Some-Let.ensures) c.requires.tree c.requires.there refl) c.in_let.ensures
 
-pub in_bodyform-returns-in-1 : goal.in_bodyform-returns-in-1
-in_bodyform-returns-in-1 t c = in-bodyform-needs.returns-2 t c.before
+pub in_bodyform-returns-in-Some-Quoted : goal.in_bodyform-returns-in-Some-Quoted
+in_bodyform-returns-in-Some-Quoted t c = in_renames c.requires (quoted_marked (body_placed c.in-Some-Quoted.field-0-is c.in-Some-Quoted.ensures) c.requires.tree c.requires.there refl) c.rename_quoted.ensures
 
-pub in_bodyform-returns-in-3 : goal.in_bodyform-returns-in-3
-in_bodyform-returns-in-3 t c = in-bodyform-needs.returns-3 t c.before
+pub in_bodyform-returns-in-Some-Call : goal.in_bodyform-returns-in-Some-Call
+in_bodyform-returns-in-Some-Call t c = walks_as c.requires (call_marked (body_placed c.in-Some-Call.field-0-is c.in-Some-Call.ensures) c.requires.tree c.requires.there refl) c.call.ensures
 
-pub in_bodyform-returns-in-4 : goal.in_bodyform-returns-in-4
-in_bodyform-returns-in-4 t c = in-bodyform-needs.returns-4 t c.before
+pub in_bodyform-returns-in-Some-Mod : goal.in_bodyform-returns-in-Some-Mod
+in_bodyform-returns-in-Some-Mod t c = in_keeps c.requires (mod_marked (body_placed c.in-Some-Mod.field-0-is c.in-Some-Mod.ensures) c.requires.tree c.requires.there refl) c.keep_body.ensures
 
-pub in_bodyform-returns-in-5 : goal.in_bodyform-returns-in-5
-in_bodyform-returns-in-5 t c = in-bodyform-needs.returns-5 t c.before
+pub in_bodyform-returns-in-Some-Lambda : goal.in_bodyform-returns-in-Some-Lambda
+in_bodyform-returns-in-Some-Lambda t c = walks_as c.requires (lambda_marked (body_placed c.in-Some-Lambda.field-0-is c.in-Some-Lambda.ensures) c.requires.tree c.requires.there refl) c.in_lambda.ensures
 
 pub in_bodyform-returns-in_default : goal.in_bodyform-returns-in_default
-in_bodyform-returns-in_default t c = in-bodyform-needs.returns-6 t c.before
-
-pub in_lambda-lambda_view-v-requires : goal.in_lambda-lambda_view-v-requires
-in_lambda-lambda_view-v-requires t c = in-lambda-needs.lambda-view-requires t c ([], tt)
+in_bodyform-returns-in_default t c =
+    let e = c.body_mark.ensures in
+    in_renames c.requires (value_marked refl c.requires.tree c.requires.there (body_other Let e (search rules)) (body_other Quoted e (search rules)) (body_other Call e (search rules)) (body_other Mod e (search rules)) (body_other Lambda e (search rules))) c.rename_value.ensures
 
 pub in_lambda-copy-requires : goal.in_lambda-copy-requires
-in_lambda-copy-requires t c = in-lambda-needs.copy-requires t c ([], tt)
+in_lambda-copy-requires t c = in_lambda_laws.head_moves c.requires c.lambda_view-v.ensures
 
 pub in_lambda-slice_bounds-in_bodyform-count : goal.in_lambda-slice_bounds-in_bodyform-count
-in_lambda-slice_bounds-in_bodyform-count t c = in-lambda-needs.sub-in-bodyform t c.before
+in_lambda-slice_bounds-in_bodyform-count t c = let z = in_lambda_laws.widths c.requires c.lambda_view-v.ensures in omega (arith, c.copy.ensures.frame.size)
 
 pub in_lambda-slice_bounds-in_bodyform-start : goal.in_lambda-slice_bounds-in_bodyform-start
-in_lambda-slice_bounds-in_bodyform-start t c = in-lambda-needs.part-in-bodyform-start t c.before
+in_lambda-slice_bounds-in_bodyform-start t c = let z = in_lambda_laws.widths c.requires c.lambda_view-v.ensures in omega (arith, c.copy.ensures.frame.size)
 
-pub in_lambda-slice_bounds-in_bodyform-end : goal.in_lambda-slice_bounds-in_bodyform-end
-in_lambda-slice_bounds-in_bodyform-end t c = in-lambda-needs.part-in-bodyform-end t c.before
+pub in_lambda-overflow_sub-behind : goal.in_lambda-overflow_sub-behind
+in_lambda-overflow_sub-behind t c = let z = in_lambda_laws.widths c.requires c.lambda_view-v.ensures in omega arith
 
-pub in_lambda-overflow_add-free : goal.in_lambda-overflow_add-free
-in_lambda-overflow_add-free t c = in-lambda-needs.add-t22 t c
-
-pub in_lambda-overflow_add-free-2 : goal.in_lambda-overflow_add-free-2
-in_lambda-overflow_add-free-2 t c = in-lambda-needs.add-t23 t c
-
-pub in_lambda-overflow_sub-free : goal.in_lambda-overflow_sub-free
-in_lambda-overflow_sub-free t c = in-lambda-needs.sub-t24 t c
-
-pub in_lambda-overflow_sub-t : goal.in_lambda-overflow_sub-t
-in_lambda-overflow_sub-t t c = in-lambda-needs.sub-t25 t c
+pub in_lambda-overflow_sub-behind-2 : goal.in_lambda-overflow_sub-behind-2
+in_lambda-overflow_sub-behind-2 t c = let z = in_lambda_laws.widths c.requires c.lambda_view-v.ensures in omega arith
 
 pub in_lambda-in_bodyform-requires : goal.in_lambda-in_bodyform-requires
-in_lambda-in_bodyform-requires t c = in-lambda-needs.in-bodyform-requires t c ([], tt)
+in_lambda-in_bodyform-requires t c =
+    let z = in_lambda_laws.widths c.requires c.lambda_view-v.ensures in
+    (omega (arith, c.decreases), in_lambda_laws.captures_ready c.requires c.lambda_view-v.ensures c.copy.ensures)
+
+pub in_lambda-returns-in_err-made : goal.in_lambda-returns-in_err-made
+in_lambda-returns-in_err-made t c =
+    let e = err_from_is_err_and c.from_residual.result c.from_residual.ensures.1 in
+    rw (e.1, e.2) (in_lambda_laws.lambda_refused c.requires c.lambda_view-v.ensures c.copy.ensures c.in_bodyform.ensures _ c.in_err-made.was)
 
 pub in_lambda-rest-requires : goal.in_lambda-rest-requires
-in_lambda-rest-requires t c = in-lambda-needs.rest-requires t c ([], tt)
+in_lambda-rest-requires t c = (omega (arith, c.decreases), in_lambda_laws.captured_ready c.requires c.lambda_view-v.ensures c.copy.ensures c.in_bodyform.ensures _ _ _ c.in_ok-made.was)
 
-pub in_lambda-returns-in-Refused : goal.in_lambda-returns-in-Refused
-in_lambda-returns-in-Refused t c = in-lambda-needs.returns t c.before
-
-pub in_lambda-returns-in-Done : goal.in_lambda-returns-in-Done
-in_lambda-returns-in-Done t c = in-lambda-needs.returns-2 t c.before
-
-pub in_let-let_view-v-requires : goal.in_let-let_view-v-requires
-in_let-let_view-v-requires t c = in-let-needs.let-view-requires t c ([], tt)
+pub in_lambda-returns : goal.in_lambda-returns
+in_lambda-returns t c = in_lambda_laws.lambda_answers c.requires c.lambda_view-v.ensures c.copy.ensures c.in_bodyform.ensures _ _ _ c.in_ok-made.was c.rest.ensures
 
 pub in_let-copy-requires : goal.in_let-copy-requires
-in_let-copy-requires t c = in-let-needs.copy-requires t c ([], tt)
+in_let-copy-requires t c = in_let_laws.copy_moves c.let_view-v.ensures c.requires
 
-pub in_let-slice_bounds-binds-count : goal.in_let-slice_bounds-binds-count
-in_let-slice_bounds-binds-count t c = in-let-needs.sub-binds t c.before
-
-pub in_let-slice_bounds-binds-start : goal.in_let-slice_bounds-binds-start
-in_let-slice_bounds-binds-start t c = in-let-needs.part-binds-start t c.before
-
-pub in_let-slice_bounds-binds-end : goal.in_let-slice_bounds-binds-end
-in_let-slice_bounds-binds-end t c = in-let-needs.part-binds-end t c.before
-
-pub in_let-overflow_sub-t : goal.in_let-overflow_sub-t
-in_let-overflow_sub-t t c = in-let-needs.sub-t27 t c
+pub in_let-overflow_sub-below : goal.in_let-overflow_sub-below
+in_let-overflow_sub-below t c = in_let_laws.deep c.let_view-v.ensures c.requires
 
 pub in_let-binds-requires : goal.in_let-binds-requires
-in_let-binds-requires t c = in-let-needs.binds-requires t c ([], tt)
+in_let-binds-requires t c =
+    let x = c.let_view-v.ensures in
+    (omega (arith, c.decreases, in_let_laws.deep x c.requires), in_let_laws.all_ready x c.requires c.copy.ensures)
+
+pub in_let-returns-in_err-all : goal.in_let-returns-in_err-all
+in_let-returns-in_err-all t c =
+    let e = err_from_is_err_and c.from_residual.result c.from_residual.ensures.1 in
+    rw (e.1, e.2) (in_let_laws.bindings_refused c.let_view-v.ensures c.requires c.copy.ensures c.binds.ensures _ c.in_err-all.was)
 
 pub in_let-overflow_add-q : goal.in_let-overflow_add-q
-in_let-overflow_add-q t c = in-let-needs.add-q t c.before
+in_let-overflow_add-q t c =
+    omega (arith, in_let_laws.reads c.let_view-v.ensures c.requires c.copy.ensures c.binds.ensures _ _ _ _ c.in_ok-all.was, c.well_formed)
+
+pub in_let-overflow_add-w : goal.in_let-overflow_add-w
+in_let-overflow_add-w t c =
+    omega (arith, in_let_laws.written c.let_view-v.ensures c.requires c.copy.ensures c.binds.ensures _ _ _ _ c.in_ok-all.was, c.requires.longest)
+
+pub in_let-overflow_add-behind : goal.in_let-overflow_add-behind
+in_let-overflow_add-behind t c =
+    let x = c.let_view-v.ensures in
+    omega (arith, in_let_laws.written x c.requires c.copy.ensures c.binds.ensures _ _ _ _ c.in_ok-all.was, in_let_laws.wide x c.requires, c.well_formed)
+
+pub in_let-overflow_sub-behind : goal.in_let-overflow_sub-behind
+in_let-overflow_sub-behind t c =
+    omega (arith, in_let_laws.past c.let_view-v.ensures c.requires c.copy.ensures c.binds.ensures _ _ _ _ c.in_ok-all.was)
 
 pub in_let-slice_bounds-in_bodyform-count : goal.in_let-slice_bounds-in_bodyform-count
-in_let-slice_bounds-in_bodyform-count t c = in-let-needs.sub-in-bodyform t c.before
+in_let-slice_bounds-in_bodyform-count t c =
+    omega (arith, in_let_laws.reads c.let_view-v.ensures c.requires c.copy.ensures c.binds.ensures _ _ _ _ c.in_ok-all.was)
 
 pub in_let-slice_bounds-in_bodyform-start : goal.in_let-slice_bounds-in_bodyform-start
-in_let-slice_bounds-in_bodyform-start t c = in-let-needs.part-in-bodyform-start t c.before
-
-pub in_let-slice_bounds-in_bodyform-end : goal.in_let-slice_bounds-in_bodyform-end
-in_let-slice_bounds-in_bodyform-end t c = in-let-needs.part-in-bodyform-end t c.before
-
-pub in_let-overflow_add-free : goal.in_let-overflow_add-free
-in_let-overflow_add-free t c = in-let-needs.add-t35 t c
-
-pub in_let-overflow_add-free-in-Done : goal.in_let-overflow_add-free-in-Done
-in_let-overflow_add-free-in-Done t c = in-let-needs.add-t36 t c
-
-pub in_let-overflow_sub-free : goal.in_let-overflow_sub-free
-in_let-overflow_sub-free t c = in-let-needs.sub-t37 t c
-
-pub in_let-overflow_sub-t-in-Done : goal.in_let-overflow_sub-t-in-Done
-in_let-overflow_sub-t-in-Done t c = in-let-needs.sub-t38 t c
+in_let-slice_bounds-in_bodyform-start t c =
+    omega (arith, in_let_laws.reads c.let_view-v.ensures c.requires c.copy.ensures c.binds.ensures _ _ _ _ c.in_ok-all.was)
 
 pub in_let-in_bodyform-requires : goal.in_let-in_bodyform-requires
-in_let-in_bodyform-requires t c = in-let-needs.in-bodyform-requires t c ([], tt)
+in_let-in_bodyform-requires t c =
+    let x = c.let_view-v.ensures in
+    (omega (arith, c.decreases, in_let_laws.deep x c.requires), in_let_laws.body_ready x c.requires c.copy.ensures c.binds.ensures _ _ _ _ c.in_ok-all.was)
 
-pub in_let-overflow_add-s : goal.in_let-overflow_add-s
-in_let-overflow_add-s t c = in-let-needs.add-if1 t c.before
+pub in_let-returns-in_err-body : goal.in_let-returns-in_err-body
+in_let-returns-in_err-body t c =
+    let e = err_from_is_err_and c.from_residual-in_err-body.result c.from_residual-in_err-body.ensures.1 in
+    rw (e.1, e.2) (in_let_laws.body_refused c.let_view-v.ensures c.requires c.copy.ensures c.binds.ensures _ _ _ _ c.in_ok-all.was c.in_bodyform.ensures _ c.in_err-body.was)
 
-pub in_let-over_long-requires : goal.in_let-over_long-requires
-in_let-over_long-requires t c = in-let-needs.over-long-requires t c.before tt
+pub in_let-overflow_add-all : goal.in_let-overflow_add-all
+in_let-overflow_add-all t c =
+    let x = c.let_view-v.ensures in
+    let p = c.requires in
+    let e = c.in_ok-all.was in
+    omega (
+      arith,
+      (in_let_laws.body_sizes x p c.copy.ensures c.binds.ensures _ _ _ _ e c.in_bodyform.ensures _ _ _ c.in_ok-body.was).1,
+      in_let_laws.summed x p c.copy.ensures c.binds.ensures _ _ _ _ e,
+      p.longest,
+      c.well_formed,
+    )
 
-pub in_let-returns-then-t-s : goal.in_let-returns-then-t-s
-in_let-returns-then-t-s t c = in-let-needs.returns t c.before
+pub in_let-returns-then-t-all : goal.in_let-returns-then-t-all
+in_let-returns-then-t-all t c =
+    in_let_laws.body_over c.let_view-v.ensures c.requires c.copy.ensures c.binds.ensures _ _ _ _ c.in_ok-all.was c.in_bodyform.ensures _ _ _ c.in_ok-body.was c.if-t-all.true (ap Err c.over_long.ensures)
 
-pub in_let-overflow_add-q-in-Done-in_bodyform : goal.in_let-overflow_add-q-in-Done-in_bodyform
-in_let-overflow_add-q-in-Done-in_bodyform t c = in-let-needs.add-finished t c.before
+pub in_let-overflow_add-q-2 : goal.in_let-overflow_add-q-2
+in_let-overflow_add-q-2 t c =
+    let x = c.let_view-v.ensures in
+    let p = c.requires in
+    omega (
+      arith,
+      (in_let_laws.body_sizes x p c.copy.ensures c.binds.ensures _ _ _ _ c.in_ok-all.was c.in_bodyform.ensures _ _ _ c.in_ok-body.was).0,
+      in_let_laws.wide x p,
+      c.well_formed,
+    )
 
-pub in_let-overflow_add-first : goal.in_let-overflow_add-first
-in_let-overflow_add-first t c = in-let-needs.add-finished-2 t c.before
+pub in_let-overflow_add-w-2 : goal.in_let-overflow_add-w-2
+in_let-overflow_add-w-2 t c =
+    omega (
+      arith,
+      (in_let_laws.body_sizes c.let_view-v.ensures c.requires c.copy.ensures c.binds.ensures _ _ _ _ c.in_ok-all.was c.in_bodyform.ensures _ _ _ c.in_ok-body.was).1,
+      c.well_formed,
+    )
 
-pub in_let-overflow_add-first-in-Done-in_bodyform : goal.in_let-overflow_add-first-in-Done-in_bodyform
-in_let-overflow_add-first-in-Done-in_bodyform t c = in-let-needs.add-finished-3 t c.before
-
-pub in_let-finished-requires : goal.in_let-finished-requires
-in_let-finished-requires t c = in-let-needs.finished-requires t c.before tt
-
-pub in_let-returns-in-Refused : goal.in_let-returns-in-Refused
-in_let-returns-in-Refused t c = in-let-needs.returns-2 t c.before
-
-pub in_let-returns-in-Refused-in_bodyform : goal.in_let-returns-in-Refused-in_bodyform
-in_let-returns-in-Refused-in_bodyform t c = in-let-needs.returns-3 t c.before
-
-pub in_let-returns-else-t-s : goal.in_let-returns-else-t-s
-in_let-returns-else-t-s t c = in-let-needs.returns-4 t c.before
-
-pub lambda-lambda_view-v-requires : goal.lambda-lambda_view-v-requires
-lambda-lambda_view-v-requires t c = lambda-needs.lambda-view-requires t c ([], tt)
+pub in_let-returns : goal.in_let-returns
+in_let-returns t c =
+    in_let_laws.let_finished c.let_view-v.ensures c.requires c.copy.ensures c.binds.ensures _ _ _ _ c.in_ok-all.was c.in_bodyform.ensures _ _ _ c.in_ok-body.was (omega (arith, c.if-t-all.false)) c.finished.ensures
 
 pub lambda-copy-requires : goal.lambda-copy-requires
-lambda-copy-requires t c = lambda-needs.copy-requires t c ([], tt)
-
-pub lambda-slice_bounds-new_args-count : goal.lambda-slice_bounds-new_args-count
-lambda-slice_bounds-new_args-count t c = lambda-needs.sub-new-args t c.before
-
-pub lambda-slice_bounds-new_args-start : goal.lambda-slice_bounds-new_args-start
-lambda-slice_bounds-new_args-start t c = lambda-needs.part-new-args-start t c.before
-
-pub lambda-slice_bounds-new_args-end : goal.lambda-slice_bounds-new_args-end
-lambda-slice_bounds-new_args-end t c = lambda-needs.part-new-args-end t c.before
+lambda-copy-requires t c =
+    let x = lambda_laws.lambda_copies c.requires (lambda_laws.lambda_here c.lambda_view-v.ensures c.requires) in
+    movable_up (omega (arith, x.0)) (omega (arith, x.1))
 
 pub lambda-new_args-requires : goal.lambda-new_args-requires
-lambda-new_args-requires t c = lambda-needs.new-args-requires t c ([], tt)
+lambda-new_args-requires t c = lambda_laws.lambda_args c.requires (lambda_laws.lambda_here c.lambda_view-v.ensures c.requires) c.copy.ensures
+
+pub lambda-returns-in_err-new : goal.lambda-returns-in_err-new
+lambda-returns-in_err-new t c =
+    let e = err_from_is_err_and c.from_residual.result c.from_residual.ensures.1 in
+    rw (e.1, e.2) (lambda_laws.lambda_stopped c.requires (lambda_laws.lambda_here c.lambda_view-v.ensures c.requires) c.copy.ensures c.new_args.ensures _ c.in_err-new.was)
 
 pub lambda-overflow_add-q : goal.lambda-overflow_add-q
-lambda-overflow_add-q t c = lambda-needs.add-q t c.before
+lambda-overflow_add-q t c =
+    let p = c.requires in
+    omega (arith, lambda_laws.lambda_places p (lambda_laws.lambda_here c.lambda_view-v.ensures p) c.copy.ensures c.new_args.ensures _ _ _ _ c.in_ok-new.was)
+
+pub lambda-overflow_add-w : goal.lambda-overflow_add-w
+lambda-overflow_add-w t c =
+    let p = c.requires in
+    omega (arith, lambda_laws.lambda_places p (lambda_laws.lambda_here c.lambda_view-v.ensures p) c.copy.ensures c.new_args.ensures _ _ _ _ c.in_ok-new.was)
+
+pub lambda-overflow_add-behind : goal.lambda-overflow_add-behind
+lambda-overflow_add-behind t c =
+    let p = c.requires in
+    omega (arith, lambda_laws.lambda_places p (lambda_laws.lambda_here c.lambda_view-v.ensures p) c.copy.ensures c.new_args.ensures _ _ _ _ c.in_ok-new.was)
+
+pub lambda-overflow_sub-behind : goal.lambda-overflow_sub-behind
+lambda-overflow_sub-behind t c =
+    let p = c.requires in
+    omega (arith, lambda_laws.lambda_places p (lambda_laws.lambda_here c.lambda_view-v.ensures p) c.copy.ensures c.new_args.ensures _ _ _ _ c.in_ok-new.was)
+
+pub lambda-overflow_sub-behind-2 : goal.lambda-overflow_sub-behind-2
+lambda-overflow_sub-behind-2 t c = omega (arith, (lambda_laws.lambda_here c.lambda_view-v.ensures c.requires).level)
 
 pub lambda-slice_bounds-both-count : goal.lambda-slice_bounds-both-count
-lambda-slice_bounds-both-count t c = lambda-needs.sub-both t c.before
+lambda-slice_bounds-both-count t c =
+    let p = c.requires in
+    omega (arith, lambda_laws.lambda_places p (lambda_laws.lambda_here c.lambda_view-v.ensures p) c.copy.ensures c.new_args.ensures _ _ _ _ c.in_ok-new.was)
 
 pub lambda-slice_bounds-both-start : goal.lambda-slice_bounds-both-start
-lambda-slice_bounds-both-start t c = lambda-needs.part-both-start t c.before
-
-pub lambda-slice_bounds-both-end : goal.lambda-slice_bounds-both-end
-lambda-slice_bounds-both-end t c = lambda-needs.part-both-end t c.before
-
-pub lambda-overflow_add-free : goal.lambda-overflow_add-free
-lambda-overflow_add-free t c = lambda-needs.add-t32 t c
-
-pub lambda-overflow_add-free-in-Done : goal.lambda-overflow_add-free-in-Done
-lambda-overflow_add-free-in-Done t c = lambda-needs.add-t33 t c
-
-pub lambda-overflow_sub-free : goal.lambda-overflow_sub-free
-lambda-overflow_sub-free t c = lambda-needs.sub-t34 t c
-
-pub lambda-overflow_sub-t : goal.lambda-overflow_sub-t
-lambda-overflow_sub-t t c = lambda-needs.sub-t35 t c
+lambda-slice_bounds-both-start t c =
+    let p = c.requires in
+    omega (arith, lambda_laws.lambda_places p (lambda_laws.lambda_here c.lambda_view-v.ensures p) c.copy.ensures c.new_args.ensures _ _ _ _ c.in_ok-new.was)
 
 pub lambda-both-requires : goal.lambda-both-requires
-lambda-both-requires t c = lambda-needs.both-requires t c ([], tt)
+lambda-both-requires t c =
+    let p = c.requires in
+    let h = lambda_laws.lambda_here c.lambda_view-v.ensures p in
+    (omega (arith, c.decreases, h.level), lambda_laws.lambda_both p h c.copy.ensures c.new_args.ensures _ _ _ _ c.in_ok-new.was)
 
-pub lambda-overflow_add-q-in-Done-both : goal.lambda-overflow_add-q-in-Done-both
-lambda-overflow_add-q-in-Done-both t c = lambda-needs.add-finished t c.before
+pub lambda-returns-in_err-body : goal.lambda-returns-in_err-body
+lambda-returns-in_err-body t c =
+    let p = c.requires in
+    let e = err_from_is_err_and c.from_residual-in_err-body.result c.from_residual-in_err-body.ensures.1 in
+    rw (e.1, e.2) (lambda_laws.lambda_halted p (lambda_laws.lambda_here c.lambda_view-v.ensures p) c.copy.ensures c.new_args.ensures _ _ _ _ c.in_ok-new.was c.both.ensures _ c.in_err-body.was)
 
-pub lambda-overflow_add-args : goal.lambda-overflow_add-args
-lambda-overflow_add-args t c = lambda-needs.add-finished-2 t c.before
+pub lambda-overflow_add-q-2 : goal.lambda-overflow_add-q-2
+lambda-overflow_add-q-2 t c =
+    let p = c.requires in
+    omega (arith, lambda_laws.lambda_sums p (lambda_laws.lambda_here c.lambda_view-v.ensures p) c.copy.ensures c.new_args.ensures _ _ _ _ c.in_ok-new.was c.both.ensures _ _ _ _ c.in_ok-body.was)
 
-pub lambda-overflow_add-args-in-Done-both : goal.lambda-overflow_add-args-in-Done-both
-lambda-overflow_add-args-in-Done-both t c = lambda-needs.add-finished-3 t c.before
+pub lambda-overflow_add-w-2 : goal.lambda-overflow_add-w-2
+lambda-overflow_add-w-2 t c =
+    let p = c.requires in
+    omega (arith, lambda_laws.lambda_sums p (lambda_laws.lambda_here c.lambda_view-v.ensures p) c.copy.ensures c.new_args.ensures _ _ _ _ c.in_ok-new.was c.both.ensures _ _ _ _ c.in_ok-body.was)
 
-pub lambda-finished-requires : goal.lambda-finished-requires
-lambda-finished-requires t c = lambda-needs.finished-requires t c.before tt
-
-pub lambda-returns-in-Refused : goal.lambda-returns-in-Refused
-lambda-returns-in-Refused t c = lambda-needs.returns t c.before
-
-pub lambda-returns-in-Refused-both : goal.lambda-returns-in-Refused-both
-lambda-returns-in-Refused-both t c = lambda-needs.returns-2 t c.before
-
-pub lambda-returns-in-Done-both : goal.lambda-returns-in-Done-both
-lambda-returns-in-Done-both t c = lambda-needs.returns-3 t c.before
+pub lambda-returns : goal.lambda-returns
+lambda-returns t c =
+    let p = c.requires in
+    lambda_laws.lambda_finished p (lambda_laws.lambda_here c.lambda_view-v.ensures p) c.copy.ensures c.new_args.ensures _ _ _ _ c.in_ok-new.was c.both.ensures _ _ _ _ c.in_ok-body.was c.finished.ensures
 
 pub lets-bounds-mem-2 : goal.lets-bounds-mem-2
-lets-bounds-mem-2 t c = lets-needs.slice-read-k t c.before
+lets-bounds-mem-2 t c = kind_there c.requires
 
 pub lets-parallel-requires : goal.lets-parallel-requires
-lets-parallel-requires t c = lets-needs.parallel-requires t c ([], tt)
+lets-parallel-requires t c = (omega (arith, c.decreases), ready_parallel c.requires (is_parallel c.in-0.is))
 
 pub lets-chain-requires : goal.lets-chain-requires
-lets-chain-requires t c = lets-needs.chain-requires t c ([], tt)
+lets-chain-requires t c = (omega (arith, c.decreases), ready_kind c.requires Sequential (is_sequential c.in-1.is))
 
 pub lets-assign-requires : goal.lets-assign-requires
-lets-assign-requires t c = lets-needs.assign-requires t c ([], tt)
+lets-assign-requires t c = (omega (arith, c.decreases), ready_kind c.requires Assign (is_assign _ (omega arith) (omega arith)))
 
 pub lets-returns-in-0 : goal.lets-returns-in-0
-lets-returns-in-0 t c = lets-needs.returns t c.before
+lets-returns-in-0 t c = walks_kind Parallel (is_parallel c.in-0.is) c.parallel.ensures
 
 pub lets-returns-in-1 : goal.lets-returns-in-1
-lets-returns-in-1 t c = lets-needs.returns-2 t c.before
+lets-returns-in-1 t c = walks_kind Sequential (is_sequential c.in-1.is) c.chain.ensures
 
 pub lets-returns-in_default : goal.lets-returns-in_default
-lets-returns-in_default t c = lets-needs.returns-3 t c.before
-
-pub moved-overflow_mul-end : goal.moved-overflow_mul-end
-moved-overflow_mul-end t c = moved-needs.mul-end t c.before
-
-pub moved-overflow_add-end : goal.moved-overflow_add-end
-moved-overflow_add-end t c = moved-needs.add-end t c.before
+lets-returns-in_default t c = walks_kind Assign (is_assign _ (omega arith) (omega arith)) c.assign.ensures
 
 pub moved-copy-requires : goal.moved-copy-requires
-moved-copy-requires t c = moved-needs.copy-requires t c ([], tt)
-
-pub moved-overflow_sub-end : goal.moved-overflow_sub-end
-moved-overflow_sub-end t c = moved-needs.sub-copy t c
-
-pub moved-overflow_add-free : goal.moved-overflow_add-free
-moved-overflow_add-free t c = moved-needs.add-copy t c
+moved-copy-requires t c = let p = c.requires in movable_up (omega (arith, moved_laws.low p)) (omega (arith, moved_laws.wide p, p.wrote))
 
 pub moved-copy-requires-2 : goal.moved-copy-requires-2
-moved-copy-requires-2 t c = moved-needs.copy-requires-2 t c ([], tt)
+moved-copy-requires-2 t c =
+    let p = c.requires in
+    let n = c.copy.ensures.frame.size in
+    record { source = omega (arith, n, moved_laws.wide p, p.wrote); target = omega (arith, n, moved_laws.wide p, p.wrote); safe = inr (omega (arith, p.wrote)) }
 
 pub moved-slice_bounds-both-count : goal.moved-slice_bounds-both-count
-moved-slice_bounds-both-count t c = moved-needs.sub-both t c.before
+moved-slice_bounds-both-count t c = let p = c.requires in omega (arith, moved_laws.low p, moved_laws.wide p, c.copy.ensures.frame.size, c.copy-2.ensures.frame.size)
 
 pub moved-slice_bounds-both-start : goal.moved-slice_bounds-both-start
-moved-slice_bounds-both-start t c = moved-needs.part-both-start t c.before
+moved-slice_bounds-both-start t c = let p = c.requires in omega (arith, moved_laws.low p, moved_laws.wide p, c.copy.ensures.frame.size, c.copy-2.ensures.frame.size)
 
-pub moved-slice_bounds-both-end : goal.moved-slice_bounds-both-end
-moved-slice_bounds-both-end t c = moved-needs.part-both-end t c.before
+pub moved-overflow_sub-behind : goal.moved-overflow_sub-behind
+moved-overflow_sub-behind t c = omega (arith, moved_laws.low c.requires)
 
-pub moved-overflow_add-free-2 : goal.moved-overflow_add-free-2
-moved-overflow_add-free-2 t c = moved-needs.add-t19 t c
-
-pub moved-overflow_add-free-3 : goal.moved-overflow_add-free-3
-moved-overflow_add-free-3 t c = moved-needs.add-t24 t c
-
-pub moved-overflow_sub-free : goal.moved-overflow_sub-free
-moved-overflow_sub-free t c = moved-needs.sub-t25 t c
-
-pub moved-overflow_sub-t : goal.moved-overflow_sub-t
-moved-overflow_sub-t t c = moved-needs.sub-t26 t c
+pub moved-overflow_sub-behind-2 : goal.moved-overflow_sub-behind-2
+moved-overflow_sub-behind-2 t c = omega (arith, moved_laws.deep c.requires)
 
 pub moved-both-requires : goal.moved-both-requires
-moved-both-requires t c = moved-needs.both-requires t c ([], tt)
+moved-both-requires t c = let p = c.requires in (omega (arith, c.decreases, moved_laws.deep p), moved_laws.both_ready p c.copy.ensures c.copy-2.ensures)
+
+pub moved-returns-in_err-last : goal.moved-returns-in_err-last
+moved-returns-in_err-last t c =
+    let e = err_from_is_err_and c.from_residual.result c.from_residual.ensures.1 in
+    rw (e.1, e.2) (moved_laws.turned_refused c.requires c.copy.ensures c.copy-2.ensures c.both.ensures _ c.in_err-last.was)
 
 pub moved-overflow_add-body : goal.moved-overflow_add-body
-moved-overflow_add-body t c = moved-needs.add-finished t c.before
+moved-overflow_add-body t c =
+    let p = c.requires in
+    omega (arith, moved_laws.body_short p c.copy.ensures c.copy-2.ensures c.both.ensures c.in_ok-last.was)
 
-pub moved-overflow_add-first : goal.moved-overflow_add-first
-moved-overflow_add-first t c = moved-needs.add-finished-2 t c.before
+pub moved-overflow_add-first-2 : goal.moved-overflow_add-first-2
+moved-overflow_add-first-2 t c =
+    let p = c.requires in
+    omega (arith, moved_laws.body_short p c.copy.ensures c.copy-2.ensures c.both.ensures c.in_ok-last.was, p.wrote, p.ready.longest)
 
-pub moved-overflow_add-first-in-Done : goal.moved-overflow_add-first-in-Done
-moved-overflow_add-first-in-Done t c = moved-needs.add-finished-3 t c.before
-
-pub moved-finished-requires : goal.moved-finished-requires
-moved-finished-requires t c = moved-needs.finished-requires t c.before tt
-
-pub moved-returns-in-Refused : goal.moved-returns-in-Refused
-moved-returns-in-Refused t c = moved-needs.returns t c.before
-
-pub moved-returns-in-Done : goal.moved-returns-in-Done
-moved-returns-in-Done t c = moved-needs.returns-2 t c.before
-
-pub named-overflow_sub-top : goal.named-overflow_sub-top
-named-overflow_sub-top t c = named-needs.sub-top t c.before
-
-pub named-slice_bounds-args_bodyform-count : goal.named-slice_bounds-args_bodyform-count
-named-slice_bounds-args_bodyform-count t c = named-needs.sub-args-bodyform t c.before
-
-pub named-slice_bounds-args_bodyform-start : goal.named-slice_bounds-args_bodyform-start
-named-slice_bounds-args_bodyform-start t c = named-needs.part-args-bodyform-start t c.before
-
-pub named-slice_bounds-args_bodyform-end : goal.named-slice_bounds-args_bodyform-end
-named-slice_bounds-args_bodyform-end t c = named-needs.part-args-bodyform-end t c.before
-
-pub named-overflow_sub-t : goal.named-overflow_sub-t
-named-overflow_sub-t t c = named-needs.sub-t14 t c
+pub moved-returns : goal.moved-returns
+moved-returns t c = moved_laws.turned_done c.requires c.copy.ensures c.copy-2.ensures c.both.ensures c.in_ok-last.was c.finished.ensures
 
 pub named-args_bodyform-requires : goal.named-args_bodyform-requires
-named-args_bodyform-requires t c = named-needs.args-bodyform-requires t c ([], tt)
+named-args_bodyform-requires t c = (omega (arith, c.decreases), named_laws.own_ready c.requires)
+
+pub named-returns-in_err-own : goal.named-returns-in_err-own
+named-returns-in_err-own t c =
+    let e = err_from_is_err_and c.from_residual.result c.from_residual.ensures.1 in
+    rw (e.1, e.2) (named_laws.own_refused c.requires c.args_bodyform.ensures _ c.in_err-own.was)
 
 pub named-overflow_add-sum : goal.named-overflow_add-sum
-named-overflow_add-sum t c = named-needs.add-if1 t c.before
-
-pub named-placeless-requires : goal.named-placeless-requires
-named-placeless-requires t c = named-needs.placeless-requires t c.before tt
+named-overflow_add-sum t c = let p = c.requires in omega (arith, p.held, p.ready.longest, named_laws.own_short p c.args_bodyform.ensures c.in_ok-own.was)
 
 pub named-returns-then-t-sum : goal.named-returns-then-t-sum
-named-returns-then-t-sum t c = named-needs.returns t c.before
-
-pub named-overflow_add-sum-in-Done : goal.named-overflow_add-sum-in-Done
-named-overflow_add-sum-in-Done t c = named-needs.add-redo t c
+named-returns-then-t-sum t c = named_laws.own_over c.requires c.args_bodyform.ensures c.in_ok-own.was c.over_long.ensures c.if-t-sum.true
 
 pub named-redo-requires : goal.named-redo-requires
-named-redo-requires t c = named-needs.redo-requires t c ([], tt)
+named-redo-requires t c = (omega (arith, c.decreases), named_laws.remake_ready c.requires c.args_bodyform.ensures c.in_ok-own.was (omega (arith, c.if-t-sum.false)))
 
-pub named-returns-in-Refused : goal.named-returns-in-Refused
-named-returns-in-Refused t c = named-needs.returns-2 t c.before
+pub named-returns : goal.named-returns
+named-returns t c = named_laws.named_done c.requires c.args_bodyform.ensures c.in_ok-own.was (omega (arith, c.if-t-sum.false)) c.redo.ensures
 
-pub named-returns-else-t-sum : goal.named-returns-else-t-sum
-named-returns-else-t-sum t c = named-needs.returns-3 t c.before
-
-pub nested-overflow_sub-t : goal.nested-overflow_sub-t
-nested-overflow_sub-t t c = nested-needs.sub-t7 t c
+pub nested-overflow_sub-depth : goal.nested-overflow_sub-depth
+nested-overflow_sub-depth t c = nested_laws.none_level _ c.if-count-eq0.true c.requires
 
 pub nested-args_bodyform-requires : goal.nested-args_bodyform-requires
-nested-args_bodyform-requires t c = nested-needs.args-bodyform-requires t c ([], tt)
+nested-args_bodyform-requires t c =
+    let z = c.if-count-eq0.true in
+    (omega (arith, c.decreases, nested_laws.none_level _ z c.requires), nested_laws.none_ready _ z c.requires)
 
 pub nested-returns-then-count-eq0 : goal.nested-returns-then-count-eq0
-nested-returns-then-count-eq0 t c = nested-needs.returns t c.before
+nested-returns-then-count-eq0 t c = nested_laws.none_walks _ c.if-count-eq0.true c.requires c.args_bodyform.ensures
 
 pub nested-parallel-requires : goal.nested-parallel-requires
-nested-parallel-requires t c = nested-needs.parallel-requires t c ([], tt)
+nested-parallel-requires t c = (omega (arith, c.decreases), nested_laws.some_ready _ c.if-count-eq0.false c.requires)
 
 pub nested-returns : goal.nested-returns
-nested-returns t c = nested-needs.returns-2 t c.before
+nested-returns t c = nested_laws.some_walks _ c.if-count-eq0.false c.parallel.ensures
 
-pub over-slice_bounds-in_bodyform-count : goal.over-slice_bounds-in_bodyform-count
-over-slice_bounds-in_bodyform-count t c = over-needs.sub-in-bodyform t c.before
+pub over-returns-in_err-inner : goal.over-returns-in_err-inner
+over-returns-in_err-inner t c =
+    let e = err_from_is_err_and c.from_residual.result c.from_residual.ensures.1 in
+    rw (e.1, e.2) (both_laws.over_refused c.args.read c.requires c.in_bodyform.ensures _ c.in_err-inner.was)
 
-pub over-slice_bounds-in_bodyform-start : goal.over-slice_bounds-in_bodyform-start
-over-slice_bounds-in_bodyform-start t c = over-needs.part-in-bodyform-start t c.before
-
-pub over-slice_bounds-in_bodyform-end : goal.over-slice_bounds-in_bodyform-end
-over-slice_bounds-in_bodyform-end t c = over-needs.part-in-bodyform-end t c.before
-
-pub over-in_bodyform-requires : goal.over-in_bodyform-requires
-over-in_bodyform-requires t c = over-needs.in-bodyform-requires t c ([], tt)
-
-pub over-overflow_add-s : goal.over-overflow_add-s
-over-overflow_add-s t c = over-needs.add-s t c.before
-
-pub over-placeless-requires : goal.over-placeless-requires
-over-placeless-requires t c = over-needs.placeless-requires t c.before tt
-
-pub over-returns-then-t-s : goal.over-returns-then-t-s
-over-returns-then-t-s t c = over-needs.returns t c.before
-
-pub over-overflow_add-to : goal.over-overflow_add-to
-over-overflow_add-to t c = over-needs.add-copy t c
+pub over-returns-then-t-sum : goal.over-returns-then-t-sum
+over-returns-then-t-sum t c = both_laws.over_too_long c.args.read c.requires c.in_bodyform.ensures _ _ _ c.in_ok-inner.was _ c.over_long.ensures c.if-t-sum.true
 
 pub over-copy-requires : goal.over-copy-requires
-over-copy-requires t c = over-needs.copy-requires t c ([], tt)
+over-copy-requires t c = both_laws.over_moves c.args.read c.requires c.in_bodyform.ensures _ _ _ c.in_ok-inner.was
 
-pub over-returns-in-Refused : goal.over-returns-in-Refused
-over-returns-in-Refused t c = over-needs.returns-2 t c.before
-
-pub over-returns-else-t-s : goal.over-returns-else-t-s
-over-returns-else-t-s t c = over-needs.returns-3 t c.before
-
-pub parallel-let_view-v-requires : goal.parallel-let_view-v-requires
-parallel-let_view-v-requires t c = parallel-needs.let-view-requires t c ([], tt)
-
-pub parallel-let_room-requires : goal.parallel-let_room-requires
-parallel-let_room-requires t c = parallel-needs.let-room-requires t c tt
+pub over-returns : goal.over-returns
+over-returns t c = both_laws.over_done c.args.read c.requires c.in_bodyform.ensures _ _ _ c.in_ok-inner.was (omega (arith, c.if-t-sum.false)) c.copy.ensures
 
 pub parallel-overflow_sub-aside : goal.parallel-overflow_sub-aside
-parallel-overflow_sub-aside t c = parallel-needs.sub-aside t c
+parallel-overflow_sub-aside t c = parallel_laws.aside_short c.let_view-v.ensures c.requires c.let_room.ensures
 
 pub parallel-make_bindings_unique-requires : goal.parallel-make_bindings_unique-requires
-parallel-make_bindings_unique-requires t c = parallel-needs.make-bindings-unique-requires t c ([], tt)
+parallel-make_bindings_unique-requires t c = parallel_laws.patterns_ready c.let_view-v.ensures c.requires c.let_room.ensures
+
+pub parallel-returns-in_err-new : goal.parallel-returns-in_err-new
+parallel-returns-in_err-new t c =
+    let e = err_from_is_err_and c.from_residual.result c.from_residual.ensures.1 in
+    rw (e.1, e.2) (parallel_laws.patterns_refused c.let_view-v.ensures c.requires c.let_room.ensures c.make_bindings_unique.ensures _ c.in_err-new.was)
 
 pub parallel-bound-requires : goal.parallel-bound-requires
-parallel-bound-requires t c = parallel-needs.bound-requires t c ([], tt)
+parallel-bound-requires t c =
+    (omega (arith, c.decreases), parallel_laws.patterned_ready c.let_view-v.ensures c.requires c.let_room.ensures c.make_bindings_unique.ensures _ _ _ _ c.in_ok-new.was)
 
-pub parallel-returns-in-Refused : goal.parallel-returns-in-Refused
-parallel-returns-in-Refused t c = parallel-needs.returns t c.before
-
-pub parallel-returns-in-Done : goal.parallel-returns-in-Done
-parallel-returns-in-Done t c = parallel-needs.returns-2 t c.before
-
-pub redo-overflow_add-to : goal.redo-overflow_add-to
-redo-overflow_add-to t c = redo-needs.add-t15 t c
-
-pub redo-overflow_sub-t : goal.redo-overflow_sub-t
-redo-overflow_sub-t t c = redo-needs.sub-t16 t c
+pub parallel-returns : goal.parallel-returns
+parallel-returns t c =
+    parallel_laws.parallel_done c.let_view-v.ensures c.requires c.let_room.ensures c.make_bindings_unique.ensures _ _ _ _ c.in_ok-new.was c.bound.ensures
 
 pub redo-rename_in_cons-requires : goal.redo-rename_in_cons-requires
-redo-rename_in_cons-requires t c = redo-needs.rename-in-cons-requires t c ([], tt)
+redo-rename_in_cons-requires t c = redo_laws.pattern_asks c.requires
 
-pub redo-slice_bounds-in_bodyform-count : goal.redo-slice_bounds-in_bodyform-count
-redo-slice_bounds-in_bodyform-count t c = redo-needs.sub-in-bodyform t c.before
-
-pub redo-slice_bounds-in_bodyform-start : goal.redo-slice_bounds-in_bodyform-start
-redo-slice_bounds-in_bodyform-start t c = redo-needs.part-in-bodyform-start t c.before
-
-pub redo-slice_bounds-in_bodyform-end : goal.redo-slice_bounds-in_bodyform-end
-redo-slice_bounds-in_bodyform-end t c = redo-needs.part-in-bodyform-end t c.before
-
-pub redo-overflow_add-w : goal.redo-overflow_add-w
-redo-overflow_add-w t c = redo-needs.add-t24 t c
+pub redo-returns-in_err-pattern : goal.redo-returns-in_err-pattern
+redo-returns-in_err-pattern t c =
+    let e = err_from_is_err_and c.from_residual.result c.from_residual.ensures.1 in
+    rw (e.1, e.2) (redo_laws.pattern_refused c.requires c.rename_in_cons.ensures _ c.in_err-pattern.was)
 
 pub redo-in_bodyform-requires : goal.redo-in_bodyform-requires
-redo-in_bodyform-requires t c = redo-needs.in-bodyform-requires t c ([], tt)
+redo-in_bodyform-requires t c = (omega (arith, c.decreases), redo_laws.in_ready c.requires c.rename_in_cons.ensures c.in_ok-pattern.was)
 
-pub redo-overflow_add-s : goal.redo-overflow_add-s
-redo-overflow_add-s t c = redo-needs.add-s t c.before
+pub redo-returns-in_err-body : goal.redo-returns-in_err-body
+redo-returns-in_err-body t c =
+    let e = err_from_is_err_and c.from_residual-in_err-body.result c.from_residual-in_err-body.ensures.1 in
+    rw (e.1, e.2) (redo_laws.in_refused c.requires c.rename_in_cons.ensures c.in_ok-pattern.was c.in_bodyform.ensures _ c.in_err-body.was)
 
-pub redo-overflow_sub-s : goal.redo-overflow_sub-s
-redo-overflow_sub-s t c = redo-needs.sub-s t c.before
+pub redo-overflow_add-sum-2 : goal.redo-overflow_add-sum-2
+redo-overflow_add-sum-2 t c =
+    let p = c.requires in
+    omega (arith, redo_laws.pattern_fits p c.rename_in_cons.ensures c.in_ok-pattern.was, redo_laws.in_short p c.rename_in_cons.ensures c.in_ok-pattern.was c.in_bodyform.ensures c.in_ok-body.was, p.longest)
 
-pub redo-overflow_add-s-in-Done-in_bodyform : goal.redo-overflow_add-s-in-Done-in_bodyform
-redo-overflow_add-s-in-Done-in_bodyform t c = redo-needs.add-s-2 t c.before
-
-pub redo-placeless-requires : goal.redo-placeless-requires
-redo-placeless-requires t c = redo-needs.placeless-requires t c.before tt
-
-pub redo-returns-then-t-s : goal.redo-returns-then-t-s
-redo-returns-then-t-s t c = redo-needs.returns t c.before
-
-pub redo-overflow_add-to-in-Done-in_bodyform : goal.redo-overflow_add-to-in-Done-in_bodyform
-redo-overflow_add-to-in-Done-in_bodyform t c = redo-needs.add-copy t c
-
-pub redo-overflow_add-x : goal.redo-overflow_add-x
-redo-overflow_add-x t c = redo-needs.add-copy-2 t c
+pub redo-returns-then-t-sum : goal.redo-returns-then-t-sum
+redo-returns-then-t-sum t c = redo_laws.in_over c.requires c.rename_in_cons.ensures c.in_ok-pattern.was c.in_bodyform.ensures c.in_ok-body.was c.over_long.ensures c.if-t-sum.true
 
 pub redo-copy-requires : goal.redo-copy-requires
-redo-copy-requires t c = redo-needs.copy-requires t c ([], tt)
+redo-copy-requires t c =
+    let n = redo_laws.move_fits c.requires c.rename_in_cons.ensures c.in_ok-pattern.was c.in_bodyform.ensures c.in_ok-body.was in
+    record { source = omega (arith, n); target = omega (arith, n); safe = inr (omega arith) }
 
-pub redo-overflow_add-result : goal.redo-overflow_add-result
-redo-overflow_add-result t c = redo-needs.add-t27 t c.before
-
-pub redo-returns-in-Refused : goal.redo-returns-in-Refused
-redo-returns-in-Refused t c = redo-needs.returns-2 t c.before
-
-pub redo-returns-in-Refused-in_bodyform : goal.redo-returns-in-Refused-in_bodyform
-redo-returns-in-Refused-in_bodyform t c = redo-needs.returns-3 t c.before
-
-pub redo-returns-else-t-s : goal.redo-returns-else-t-s
-redo-returns-else-t-s t c = redo-needs.returns-4 t c.before
-
-pub rest-overflow_add-q : goal.rest-overflow_add-q
-rest-overflow_add-q t c = rest-needs.add-q t c.before
-
-pub rest-slice_bounds-rename_in_cons-count : goal.rest-slice_bounds-rename_in_cons-count
-rest-slice_bounds-rename_in_cons-count t c = rest-needs.sub-rename-in-cons t c.before
-
-pub rest-slice_bounds-rename_in_cons-start : goal.rest-slice_bounds-rename_in_cons-start
-rest-slice_bounds-rename_in_cons-start t c = rest-needs.part-rename-in-cons-start t c.before
-
-pub rest-slice_bounds-rename_in_cons-end : goal.rest-slice_bounds-rename_in_cons-end
-rest-slice_bounds-rename_in_cons-end t c = rest-needs.part-rename-in-cons-end t c.before
-
-pub rest-overflow_sub-q : goal.rest-overflow_sub-q
-rest-overflow_sub-q t c = rest-needs.sub-t22 t c
-
-pub rest-overflow_sub-t : goal.rest-overflow_sub-t
-rest-overflow_sub-t t c = rest-needs.sub-t23 t c
+pub redo-returns : goal.redo-returns
+redo-returns t c = redo_laws.remake_done c.requires c.rename_in_cons.ensures c.in_ok-pattern.was c.in_bodyform.ensures c.in_ok-body.was c.copy.ensures (omega (arith, c.if-t-sum.false))
 
 pub rest-rename_in_cons-requires : goal.rest-rename_in_cons-requires
-rest-rename_in_cons-requires t c = rest-needs.rename-in-cons-requires t c ([], tt)
+rest-rename_in_cons-requires t c = rest_laws.capture_args_asks (rest_laws.setting c.requires)
 
-pub rest-overflow_add-q-in-Done : goal.rest-overflow_add-q-in-Done
-rest-overflow_add-q-in-Done t c = rest-needs.add-copy t c
+pub rest-returns-in_err-renamed : goal.rest-returns-in_err-renamed
+rest-returns-in_err-renamed t c =
+    let e = err_from_is_err_and c.from_residual.result c.from_residual.ensures.1 in
+    rw (e.1, e.2) (rest_laws.captured_refused c.requires c.rename_in_cons.ensures _ c.in_err-renamed.was)
 
-pub rest-overflow_add-q-in-Done-2 : goal.rest-overflow_add-q-in-Done-2
-rest-overflow_add-q-in-Done-2 t c = rest-needs.add-copy-2 t c
+pub rest-overflow_add-q-3 : goal.rest-overflow_add-q-3
+rest-overflow_add-q-3 t c =
+    omega (arith, rest_laws.before_fits (rest_laws.setting c.requires) c.rename_in_cons.ensures _ _ _ c.in_ok-renamed.was)
 
 pub rest-copy-requires : goal.rest-copy-requires
-rest-copy-requires t c = rest-needs.copy-requires t c ([], tt)
+rest-copy-requires t c = rest_laws.captures_move (rest_laws.setting c.requires) c.rename_in_cons.ensures _ _ _ c.in_ok-renamed.was
 
 pub rest-overflow_add-to : goal.rest-overflow_add-to
-rest-overflow_add-to t c = rest-needs.add-to t c.before
+rest-overflow_add-to t c =
+    omega (arith, rest_laws.before_fits (rest_laws.setting c.requires) c.rename_in_cons.ensures _ _ _ c.in_ok-renamed.was)
 
-pub rest-overflow_add-to-in-Done : goal.rest-overflow_add-to-in-Done
-rest-overflow_add-to-in-Done t c = rest-needs.add-to-2 t c.before
+pub rest-overflow_add-to-2 : goal.rest-overflow_add-to-2
+rest-overflow_add-to-2 t c =
+    omega (arith, rest_laws.before_fits (rest_laws.setting c.requires) c.rename_in_cons.ensures _ _ _ c.in_ok-renamed.was)
 
-pub rest-overflow_sub-n : goal.rest-overflow_sub-n
-rest-overflow_sub-n t c = rest-needs.sub-n t c.before
+pub rest-copy-requires-2 : goal.rest-copy-requires-2
+rest-copy-requires-2 t c = rest_laws.args_move (rest_laws.setting c.requires) c.rename_in_cons.ensures _ _ _ c.in_ok-renamed.was c.copy.ensures
 
-pub rest-copy-requires-in-Done : goal.rest-copy-requires-in-Done
-rest-copy-requires-in-Done t c = rest-needs.copy-requires-2 t c ([], tt)
+pub rest-overflow_add-behind : goal.rest-overflow_add-behind
+rest-overflow_add-behind t c =
+    omega (arith, rest_laws.before_fits (rest_laws.setting c.requires) c.rename_in_cons.ensures _ _ _ c.in_ok-renamed.was)
+
+pub rest-overflow_sub-behind : goal.rest-overflow_sub-behind
+rest-overflow_sub-behind t c =
+    omega (arith, rest_laws.before_fits (rest_laws.setting c.requires) c.rename_in_cons.ensures _ _ _ c.in_ok-renamed.was)
+
+pub rest-overflow_sub-behind-2 : goal.rest-overflow_sub-behind-2
+rest-overflow_sub-behind-2 t c = let z = rest_laws.widths (rest_laws.setting c.requires) in omega arith
 
 pub rest-slice_bounds-both-count : goal.rest-slice_bounds-both-count
-rest-slice_bounds-both-count t c = rest-needs.sub-both t c.before
+rest-slice_bounds-both-count t c =
+    let h = rest_laws.setting c.requires in
+    let l = (rest_laws.args_move h c.rename_in_cons.ensures _ _ _ c.in_ok-renamed.was c.copy.ensures).target in
+    omega (arith, rest_laws.before_fits h c.rename_in_cons.ensures _ _ _ c.in_ok-renamed.was, c.copy-2.ensures.frame.size)
 
 pub rest-slice_bounds-both-start : goal.rest-slice_bounds-both-start
-rest-slice_bounds-both-start t c = rest-needs.part-both-start t c.before
-
-pub rest-slice_bounds-both-end : goal.rest-slice_bounds-both-end
-rest-slice_bounds-both-end t c = rest-needs.part-both-end t c.before
-
-pub rest-overflow_add-w : goal.rest-overflow_add-w
-rest-overflow_add-w t c = rest-needs.add-both t c
-
-pub rest-overflow_add-to-in-Done-2 : goal.rest-overflow_add-to-in-Done-2
-rest-overflow_add-to-in-Done-2 t c = rest-needs.add-t37 t c
-
-pub rest-overflow_sub-to : goal.rest-overflow_sub-to
-rest-overflow_sub-to t c = rest-needs.sub-t38 t c
-
-pub rest-overflow_sub-t-in-Done : goal.rest-overflow_sub-t-in-Done
-rest-overflow_sub-t-in-Done t c = rest-needs.sub-t39 t c
+rest-slice_bounds-both-start t c =
+    let h = rest_laws.setting c.requires in
+    let l = (rest_laws.args_move h c.rename_in_cons.ensures _ _ _ c.in_ok-renamed.was c.copy.ensures).target in
+    omega (arith, rest_laws.before_fits h c.rename_in_cons.ensures _ _ _ c.in_ok-renamed.was, c.copy-2.ensures.frame.size)
 
 pub rest-both-requires : goal.rest-both-requires
-rest-both-requires t c = rest-needs.both-requires t c ([], tt)
+rest-both-requires t c =
+    let p = c.requires in
+    let h = rest_laws.setting p in
+    let z = rest_laws.widths h in
+    (omega (arith, c.decreases), rest_laws.both_ready h c.rename_in_cons.ensures _ _ _ c.in_ok-renamed.was c.copy.ensures c.copy-2.ensures p.counts p.longest)
+
+pub rest-returns-in_err-last : goal.rest-returns-in_err-last
+rest-returns-in_err-last t c =
+    let e = err_from_is_err_and c.from_residual-in_err-last.result c.from_residual-in_err-last.ensures.1 in
+    rw (e.1, e.2) (rest_laws.captured_stopped c.requires c.rename_in_cons.ensures _ _ _ c.in_ok-renamed.was c.copy.ensures c.copy-2.ensures c.both.ensures _ c.in_err-last.was)
+
+pub rest-overflow_add-written : goal.rest-overflow_add-written
+rest-overflow_add-written t c =
+    omega (arith, rest_laws.sums (rest_laws.setting c.requires) c.rename_in_cons.ensures _ _ _ c.in_ok-renamed.was c.copy.ensures c.copy-2.ensures c.both.ensures _ _ _ _ c.in_ok-last.was)
+
+pub rest-overflow_add-written-2 : goal.rest-overflow_add-written-2
+rest-overflow_add-written-2 t c =
+    omega (arith, rest_laws.sums (rest_laws.setting c.requires) c.rename_in_cons.ensures _ _ _ c.in_ok-renamed.was c.copy.ensures c.copy-2.ensures c.both.ensures _ _ _ _ c.in_ok-last.was)
+
+pub rest-overflow_add-written-3 : goal.rest-overflow_add-written-3
+rest-overflow_add-written-3 t c =
+    omega (arith, rest_laws.sums (rest_laws.setting c.requires) c.rename_in_cons.ensures _ _ _ c.in_ok-renamed.was c.copy.ensures c.copy-2.ensures c.both.ensures _ _ _ _ c.in_ok-last.was)
+
+pub rest-overflow_add-written-4 : goal.rest-overflow_add-written-4
+rest-overflow_add-written-4 t c =
+    omega (arith, rest_laws.sums (rest_laws.setting c.requires) c.rename_in_cons.ensures _ _ _ c.in_ok-renamed.was c.copy.ensures c.copy-2.ensures c.both.ensures _ _ _ _ c.in_ok-last.was)
 
 pub rest-overflow_add-body : goal.rest-overflow_add-body
-rest-overflow_add-body t c = rest-needs.add-finished t c.before
+rest-overflow_add-body t c =
+    omega (arith, rest_laws.sums (rest_laws.setting c.requires) c.rename_in_cons.ensures _ _ _ c.in_ok-renamed.was c.copy.ensures c.copy-2.ensures c.both.ensures _ _ _ _ c.in_ok-last.was)
 
-pub rest-overflow_add-at : goal.rest-overflow_add-at
-rest-overflow_add-at t c = rest-needs.add-finished-2 t c.before
+pub rest-returns : goal.rest-returns
+rest-returns t c =
+    rest_laws.captured_done c.requires c.rename_in_cons.ensures _ _ _ c.in_ok-renamed.was c.copy.ensures c.copy-2.ensures c.both.ensures _ _ _ _ c.in_ok-last.was c.finished.ensures
 
-pub rest-overflow_add-at-in-Done-both : goal.rest-overflow_add-at-in-Done-both
-rest-overflow_add-at-in-Done-both t c = rest-needs.add-finished-3 t c.before
-
-pub rest-overflow_add-at-in-Done-both-2 : goal.rest-overflow_add-at-in-Done-both-2
-rest-overflow_add-at-in-Done-both-2 t c = rest-needs.add-finished-4 t c.before
-
-pub rest-overflow_add-at-in-Done-both-3 : goal.rest-overflow_add-at-in-Done-both-3
-rest-overflow_add-at-in-Done-both-3 t c = rest-needs.add-finished-5 t c.before
-
-pub rest-finished-requires : goal.rest-finished-requires
-rest-finished-requires t c = rest-needs.finished-requires t c.before tt
-
-pub rest-returns-in-Refused : goal.rest-returns-in-Refused
-rest-returns-in-Refused t c = rest-needs.returns t c.before
-
-pub rest-returns-in-Refused-both : goal.rest-returns-in-Refused-both
-rest-returns-in-Refused-both t c = rest-needs.returns-2 t c.before
-
-pub rest-returns-in-Done-both : goal.rest-returns-in-Done-both
-rest-returns-in-Done-both t c = rest-needs.returns-3 t c.before
-
-pub sorted-let_view-v-requires : goal.sorted-let_view-v-requires
-sorted-let_view-v-requires t c = sorted-needs.let-view-requires t c ([], tt)
-
-pub sorted-overflow_add-starts : goal.sorted-overflow_add-starts
-sorted-overflow_add-starts t c = sorted-needs.add-starts t c
-
-pub sorted-slice_bounds-starts-end : goal.sorted-slice_bounds-starts-end
-sorted-slice_bounds-starts-end t c = sorted-needs.array-borrow-prefix-starts t c
-
-pub sorted-slice_bounds-binding_starts-end : goal.sorted-slice_bounds-binding_starts-end
-sorted-slice_bounds-binding_starts-end t c = sorted-needs.slice-aggregate-binding-starts t c
-
-pub sorted-binding_starts-requires : goal.sorted-binding_starts-requires
-sorted-binding_starts-requires t c = sorted-needs.binding-starts-requires t c ([], ([], tt))
-
-pub sorted-offset_bounds-starts-count : goal.sorted-offset_bounds-starts-count
-sorted-offset_bounds-starts-count t c = sorted-needs.mul-body t c
-
-pub sorted-bounds-starts-count : goal.sorted-bounds-starts-count
-sorted-bounds-starts-count t c = sorted-needs.array-read-body t c
-
-pub sorted-overflow_mul-end : goal.sorted-overflow_mul-end
-sorted-overflow_mul-end t c = sorted-needs.mul-end t c
-
-pub sorted-overflow_add-end : goal.sorted-overflow_add-end
-sorted-overflow_add-end t c = sorted-needs.add-end t c
-
-pub sorted-slice_bounds-row-end : goal.sorted-slice_bounds-row-end
-sorted-slice_bounds-row-end t c = sorted-needs.array-share-prefix-row t c
-
-pub sorted-slice_bounds-assign_all-end : goal.sorted-slice_bounds-assign_all-end
-sorted-slice_bounds-assign_all-end t c = sorted-needs.slice-aggregate-assign-all t c
-
-pub sorted-overflow_add-starts-2 : goal.sorted-overflow_add-starts-2
-sorted-overflow_add-starts-2 t c = sorted-needs.add-starts-2 t c
-
-pub sorted-slice_bounds-starts-end-2 : goal.sorted-slice_bounds-starts-end-2
-sorted-slice_bounds-starts-end-2 t c = sorted-needs.array-share-prefix-starts t c
-
-pub sorted-slice_bounds-assign_all-end-2 : goal.sorted-slice_bounds-assign_all-end-2
-sorted-slice_bounds-assign_all-end-2 t c = sorted-needs.slice-aggregate-assign-all-2 t c
-
-pub sorted-overflow_sub-t : goal.sorted-overflow_sub-t
-sorted-overflow_sub-t t c = sorted-needs.sub-t21 t c
+pub sorted-overflow_sub-behind : goal.sorted-overflow_sub-behind
+sorted-overflow_sub-behind t c = omega (arith, sorted_laws.deep c.requires)
 
 pub sorted-assign_all-requires : goal.sorted-assign_all-requires
-sorted-assign_all-requires t c = sorted-needs.assign-all-requires t c ([], ([], ([], tt)))
+sorted-assign_all-requires t c =
+    let p = c.requires in
+    (omega (arith, c.decreases, sorted_laws.deep p), sorted_laws.bindings_ready p c.let_view-v.ensures _ _ (length-take-le _ _ (omega (arith, p.few))) c.binding_starts.ensures)
+
+pub sorted-returns-in_err-all : goal.sorted-returns-in_err-all
+sorted-returns-in_err-all t c =
+    let p = c.requires in
+    let e = err_from_is_err_and c.from_residual.result c.from_residual.ensures.1 in
+    rw (e.1, e.2) (sorted_laws.bindings_refused p c.let_view-v.ensures _ _ (length-take-le _ _ (omega (arith, p.few))) c.binding_starts.ensures c.assign_all.ensures _ c.in_err-all.was)
 
 pub sorted-moved-requires : goal.sorted-moved-requires
-sorted-moved-requires t c = sorted-needs.moved-requires t c ([], tt)
+sorted-moved-requires t c =
+    let p = c.requires in (
+      omega (arith, c.decreases),
+      sorted_laws.turned_ready p c.let_view-v.ensures _ _ (length-take-le _ _ (omega (arith, p.few))) c.binding_starts.ensures c.assign_all.ensures c.in_ok-all.was,
+    )
 
-pub sorted-returns-in-Refused : goal.sorted-returns-in-Refused
-sorted-returns-in-Refused t c = sorted-needs.returns t c.before
-
-pub sorted-returns-in-Done : goal.sorted-returns-in-Done
-sorted-returns-in-Done t c = sorted-needs.returns-2 t c.before
+pub sorted-returns : goal.sorted-returns
+sorted-returns t c =
+    let p = c.requires in
+    sorted_laws.ordered_done p c.let_view-v.ensures _ _ (length-take-le _ _ (omega (arith, p.few))) c.binding_starts.ensures c.assign_all.ensures c.in_ok-all.was c.moved.ensures
 
 pub tail-bounds-mem-0 : goal.tail-bounds-mem-0
-tail-bounds-mem-0 t c = tail_needs.slice-read-tag t c.before
+tail-bounds-mem-0 t c = omega (arith, tail_laws.byte_fits c.requires)
 
 pub tail-bounds-mem-to : goal.tail-bounds-mem-to
-tail-bounds-mem-to t c = tail_needs.slice-write-mem t c
+tail-bounds-mem-to t c = omega (arith, tail_laws.byte_fits c.requires)
 
 pub tail-returns-then-tag-eq0 : goal.tail-returns-then-tag-eq0
-tail-returns-then-tag-eq0 t c = tail_needs.returns t c
-
-pub tail-slice_bounds-either-count : goal.tail-slice_bounds-either-count
-tail-slice_bounds-either-count t c = tail_needs.sub-either t c
-
-pub tail-slice_bounds-either-start : goal.tail-slice_bounds-either-start
-tail-slice_bounds-either-start t c = tail_needs.part-either-start t c
-
-pub tail-slice_bounds-either-end : goal.tail-slice_bounds-either-end
-tail-slice_bounds-either-end t c = tail_needs.part-either-end t c
+tail-returns-then-tag-eq0 t c = tail_laws.no_tail_walks c.requires c.if-tag-eq0.true
 
 pub tail-either-requires : goal.tail-either-requires
-tail-either-requires t c = tail_needs.either-requires t c ([], tt)
+tail-either-requires t c = (omega (arith, c.decreases), tail_laws.tail_ready c.requires c.if-tag-eq0.false)
 
-pub tail-overflow_add-s : goal.tail-overflow_add-s
-tail-overflow_add-s t c = tail_needs.add-s t c.before
+pub tail-returns-in_err-s : goal.tail-returns-in_err-s
+tail-returns-in_err-s t c =
+    let e = err_from_is_err_and c.from_residual.result c.from_residual.ensures.1 in
+    rw (e.1, e.2) (tail_laws.tail_refused c.requires c.if-tag-eq0.false c.either.ensures _ c.in_err-s.was)
 
-pub tail-placeless-requires : goal.tail-placeless-requires
-tail-placeless-requires t c = tail_needs.placeless-requires t c.before tt
+pub tail-overflow_add-sum : goal.tail-overflow_add-sum
+tail-overflow_add-sum t c =
+    omega (arith, (tail_laws.tail_sums c.requires c.if-tag-eq0.false c.either.ensures _ _ _ c.in_ok-s.was).1, c.requires.held, c.requires.ready.longest)
 
-pub tail-returns-then-t-s : goal.tail-returns-then-t-s
-tail-returns-then-t-s t c = tail_needs.returns-2 t c.before
+pub tail-returns-then-t-sum : goal.tail-returns-then-t-sum
+tail-returns-then-t-sum t c = tail_laws.tail_too_long c.requires c.if-tag-eq0.false c.either.ensures _ _ _ c.in_ok-s.was _ c.over_long.ensures c.if-t-sum.true
 
 pub tail-overflow_add-result : goal.tail-overflow_add-result
-tail-overflow_add-result t c = tail_needs.add-t25 t c.before
+tail-overflow_add-result t c =
+    omega (arith, (tail_laws.tail_sums c.requires c.if-tag-eq0.false c.either.ensures _ _ _ c.in_ok-s.was).0, c.requires.ready.longest)
 
-pub tail-overflow_add-result-in-Done : goal.tail-overflow_add-result-in-Done
-tail-overflow_add-result-in-Done t c = tail_needs.add-t26 t c.before
-
-pub tail-returns-in-Refused : goal.tail-returns-in-Refused
-tail-returns-in-Refused t c = tail_needs.returns-3 t c.before
-
-pub tail-returns-else-t-s : goal.tail-returns-else-t-s
-tail-returns-else-t-s t c = tail_needs.returns-4 t c.before
+pub tail-returns : goal.tail-returns
+tail-returns t c = tail_laws.tail_done c.requires c.if-tag-eq0.false c.either.ensures _ _ _ c.in_ok-s.was (omega (arith, c.if-t-sum.false))

@@ -1,9 +1,8 @@
--- Own and In-body meet their contracts: what falls is in Base, what each function needs in a file of its own. Assumes nothing.
+-- What falls in the cycle of Own and In-body: 16 times the levels that are left, and the phase; and what holds in its loops. Assumes nothing.
 use Rattle.walk.proofs.AssignTurns.{Looping as Looping_assign_all}
 use Rattle.walk.proofs.LetMiddle.{Looping as Looping_binds}
 use Rattle.walk.proofs.Turns.{Looping as Looping_each}
-use Prim.Native.Nat.{◌+◌, ◌*◌, ◌-◌}
-use lib.ListN.{length}
+use Prim.Native.Nat.{◌+◌, ◌*◌}
 use Rattle.walk.specs.AssignWalks.{BindingsReady}
 use Rattle.walk.specs.LetWalks.{AllReady}
 use Rattle.walk.proofs.bodies.+bodies.Given as goal
@@ -89,22 +88,13 @@ decreases-tail l = 16 * l.t.depth + 10
 abbrev pub decreases-moved : goal.decreases-moved
 decreases-moved l = 16 * l.t.depth + 4
 
-abbrev pub invariant-assign_all-loop-j : goal.invariant-assign_all-loop-j
-invariant-assign_all-loop-j l = (p : BindingsReady l.initial.mem l.row l.starts l.t) → Looping_assign_all p l.mem l.top l.sum l.map l.counter l.j
+abbrev pub invariant-assign_all-loop-index : goal.invariant-assign_all-loop-index
+invariant-assign_all-loop-index l = (p : BindingsReady l.initial.mem l.row l.starts l.t) → Looping_assign_all p l.mem l.top l.sum l.map l.counter l.index-index
 
-abbrev pub decreases-assign_all-loop-j : goal.decreases-assign_all-loop-j
-decreases-assign_all-loop-j l = length l.row - l.j
-
-abbrev pub invariant-binds-loop-i : goal.invariant-binds-loop-i
-invariant-binds-loop-i l =
-    (p : AllReady l.initial.mem l.count l.aside l.held l.t l.owning) → Looping_binds p l.mem l.at l.to l.pattern l.sum l.counter l.i
-
-abbrev pub decreases-binds-loop-i : goal.decreases-binds-loop-i
-decreases-binds-loop-i l =
-    l.count - l.i
+-- `l.counter` is how many turns are done, and `l.counter-2` what the code calls `counter`
+abbrev pub invariant-binds-loop : goal.invariant-binds-loop
+invariant-binds-loop l =
+    (p : AllReady l.initial.mem l.count l.aside l.held l.t l.owning) → Looping_binds p l.mem l.at l.to l.pattern l.sum l.counter-2 l.counter
 
 abbrev pub invariant-each-loop-i : goal.invariant-each-loop-i
 invariant-each-loop-i l = Looping_each l.owning l.count l.t l.initial.mem l.mem l.at l.sum l.counter l.i
-
-abbrev pub decreases-each-loop-i : goal.decreases-each-loop-i
-decreases-each-loop-i l = l.count - l.i

@@ -1,50 +1,38 @@
 -- `crate::call::rename` meets its contract. Assumes nothing.
-use mathlib.Core.Path.{◌≡◌, sym, ◌∙◌}
+use mathlib.Core.Path.{refl, sym, ◌∙◌}
 use native.Mathlib.Omega.{arith}
-use Prim.Native.Nat.{ℕ}
-use lib.ListN.{length, get_or}
-use mir.Syntax.{w8}
-use mir.Val.{Fits}
-use Rattle.names.specs.Names.{Bytes}
-use Rattle.records.specs.Opened.{open_input}
-use Rattle.records.specs.Scan.{wanted_reader, opening_of}
-use Rattle.records.specs.declared.Opening.{Opening}
-use Rattle.records.specs.declared.Opening.TheVariants.{Accepted}
-use Rattle.records.specs.declared.Wanted.{Wanted}
-use Rattle.walk.specs.Renaming.{wanted_by}
-use Rattle.walk.specs.declared.Request.{Request}
-use Rattle.walk.proofs.RenameLaws.{Taken, taken, call_refused, copies, call_ready, walked_long, walked_within, walked_answers}
+use lib.ListN.{length}
+use Rattle.walk.proofs.RenameLaws.{Taken, taken, call_refused, copies, call_ready, walked_long, walked_within, walked_answers, walked_refuses}
 use Rattle.walk.proofs.call.rename.Goals as goal
+use Rattle.walk.proofs.call.rename.Goals.{In-Ok}
 
 -- the record that is accepted
-accepts : (k : Request) {F work c : ℕ} {input : Bytes} {w : Wanted} {r : Opening} → ((i : ℕ) → Fits w8 (get_or input i 0))
-    → w ≡ wanted_by k → r ≡ opening_of (open_input (wanted_reader w).1 F work c input) → r ≡ Accepted → Taken k input F work c
-accepts k {F} {work} {c} {input} fits p e is = taken k F work c input p e (λ i. omega (arith, fits i)) is
+accepted : (c : In-Ok) → Taken c.args.call c.args.input.now c.args.f (length c.args.work.now) c.args.counter
+accepted c = taken c.args.call c.args.f _ c.args.counter c.args.input.now c.wanted.ensures c.in-Ok.ensures (λ i. omega (arith, c.type_inv.input i)) refl
 
 pub put-requires : goal.put-requires
-put-requires c = omega (arith, copies c.args.call c.args.work.now (accepts c.args.call c.type_inv.input c.wanted.ensures c.open_input.ensures c.in-Accepted.is))
+put-requires c = omega (arith, copies _ c.args.work.now (accepted (goal.at.put-requires c).In-Ok))
 
-pub walk-step-requires : goal.walk-step-requires
-walk-step-requires c = call_ready _ _ (accepts c.args.call c.type_inv.input c.wanted.ensures c.open_input.ensures c.in-Accepted.is) c.put.ensures
+pub walk-requires : goal.walk-requires
+walk-requires c = call_ready _ _ (accepted (goal.at.walk-requires c).In-Ok) c.put.ensures
 
 pub slice_bounds-delivered-count : goal.slice_bounds-delivered-count
-slice_bounds-delivered-count c =
-    walked_long _ _ (accepts c.args.call c.type_inv.input c.wanted.ensures c.open_input.ensures c.in-Accepted.is) c.put.ensures c.walk-step.ensures
+slice_bounds-delivered-count c = walked_long _ _ (accepted (goal.at.slice_bounds-delivered-count c).In-Ok) c.put.ensures c.walk.ensures
 
 pub slice_bounds-delivered-start : goal.slice_bounds-delivered-start
-slice_bounds-delivered-start c =
-    omega (arith, walked_long _ _ (accepts c.args.call c.type_inv.input c.wanted.ensures c.open_input.ensures c.in-Accepted.is) c.put.ensures c.walk-step.ensures)
+slice_bounds-delivered-start c = omega (arith, walked_long _ _ (accepted (goal.at.slice_bounds-delivered-start c).In-Ok) c.put.ensures c.walk.ensures)
 
 pub delivered-requires : goal.delivered-requires
-delivered-requires c =
-    walked_within _ _ (accepts c.args.call c.type_inv.input c.wanted.ensures c.open_input.ensures c.in-Accepted.is) c.put.ensures c.walk-step.ensures
+delivered-requires c = walked_within _ _ (accepted (goal.at.delivered-requires c).In-Ok) c.put.ensures c.walk.ensures _ _ _ c.in-Ok-walk.is
 
-pub returns-in-Refused : goal.returns-in-Refused
-returns-in-Refused c =
+pub returns-in-Err : goal.returns-in-Err
+returns-in-Err c =
     let s = c.args in
-    c.refused.ensures _ ∙ sym (call_refused s.call s.f (length s.work.now) s.counter s.input.now c.wanted.ensures c.open_input.ensures _ _ c.in-Refused.is)
+    c.refused.ensures _ ∙ sym (call_refused s.call s.f (length s.work.now) s.counter s.input.now c.wanted.ensures c.in-Err.ensures _ _ refl)
 
-pub returns-in-Accepted : goal.returns-in-Accepted
-returns-in-Accepted c =
-    c.delivered.ensures
-    ∙ walked_answers _ _ (accepts c.args.call c.type_inv.input c.wanted.ensures c.open_input.ensures c.in-Accepted.is) c.put.ensures c.walk-step.ensures _
+pub returns-in-Err-walk : goal.returns-in-Err-walk
+returns-in-Err-walk c =
+    c.refused-in-Err-walk.ensures _ ∙ walked_refuses _ _ (accepted (goal.at.returns-in-Err-walk c).In-Ok) c.put.ensures c.walk.ensures _ c.in-Err-walk.is _
+
+pub returns-in-Ok-walk : goal.returns-in-Ok-walk
+returns-in-Ok-walk c = c.delivered.ensures ∙ walked_answers _ _ (accepted (goal.at.returns-in-Ok-walk c).In-Ok) c.put.ensures c.walk.ensures _ _ _ c.in-Ok-walk.is _

@@ -1,17 +1,9 @@
 -- `walk::desugar::put_let` meets its contract. Assumes nothing.
-use native.Mathlib.Omega.{arith}
 use mathlib.Core.Path.{refl}
 use Rattle.names.specs.Names.{ascii}
-use Rattle.names.proofs.Frames.{movable_up}
 use Rattle.records.specs.Records.{byte, kind_field}
 use Rattle.walk.proofs.DesugarLaws.{let_written}
 use Rattle.walk.proofs.desugar.put_let.Goals as goal
-
-pub copy-requires : goal.copy-requires
-copy-requires c = movable_up (omega arith) (omega arith)
-
-pub copy-requires-2 : goal.copy-requires-2
-copy-requires-2 c = movable_up (omega arith) (omega arith)
 
 pub returns : goal.returns
 unfolding ascii kind_field byte

@@ -1,474 +1,430 @@
--- The rules on H records and CF meet their contracts: what falls is in Base, what each function needs in a file of its own. Assumes nothing.
-mod Base
-mod NeedsAfter
-mod NeedsArgsCompileform
-mod NeedsArgsHelperform
-mod NeedsBoth
-mod NeedsByRule
-mod NeedsChild
-mod NeedsHelpers
-mod NeedsInCompileform
-mod NeedsInHelperform
-mod NeedsListed
-mod NeedsParts
-mod NeedsRenewed
-mod NeedsRest
-use Rattle.walk.proofs.forms.after.Reads as after
-use Rattle.walk.proofs.forms.+forms.Lts-after as after-lts
-use Rattle.walk.proofs.forms.args_compileform.Reads as args_compileform
-use Rattle.walk.proofs.forms.+forms.Lts-args_compileform as args-compileform-lts
-use Rattle.walk.proofs.forms.args_helperform.Reads as args_helperform
-use Rattle.walk.proofs.forms.+forms.Lts-args_helperform as args-helperform-lts
-use Rattle.walk.proofs.forms.both.Reads as both
-use Rattle.walk.proofs.forms.+forms.Lts-both as both-lts
-use Rattle.walk.proofs.forms.by_rule.Reads as by-rule
-use Rattle.walk.proofs.forms.+forms.Lts-by_rule as by-rule-lts
-use Rattle.walk.proofs.forms.child.Reads as child
-use Rattle.walk.proofs.forms.+forms.Lts-child as child-lts
-use Rattle.walk.proofs.forms.helpers.Reads as helpers
-use Rattle.walk.proofs.forms.+forms.Lts-helpers as helpers-lts
-use Rattle.walk.proofs.forms.in_compileform.Reads as in_compileform
-use Rattle.walk.proofs.forms.+forms.Lts-in_compileform as in-compileform-lts
-use Rattle.walk.proofs.forms.in_helperform.Reads as in_helperform
-use Rattle.walk.proofs.forms.+forms.Lts-in_helperform as in-helperform-lts
-use Rattle.walk.proofs.forms.listed.Reads as listed
-use Rattle.walk.proofs.forms.+forms.Lts-listed as listed-lts
-use Rattle.walk.proofs.forms.parts.Reads as parts
-use Rattle.walk.proofs.forms.+forms.Lts-parts as parts-lts
-use Rattle.walk.proofs.forms.renewed.Reads as renewed
-use Rattle.walk.proofs.forms.+forms.Lts-renewed as renewed-lts
-use Rattle.walk.proofs.forms.rest.Reads as rest
-use Rattle.walk.proofs.forms.+forms.Lts-rest as rest-lts
-use Rattle.walk.proofs.forms.+forms.Answers.Base.{after-calls, args-compileform-calls, args-helperform-calls, both-calls, by-rule-calls, child-calls, helpers-calls, in-compileform-calls, in-helperform-calls, listed-calls, parts-calls, renewed-calls, rest-calls}
-use Rattle.walk.proofs.forms.+forms.Answers.NeedsAfter as after_needs
-use Rattle.walk.proofs.forms.+forms.Answers.NeedsArgsCompileform as args-compileform-needs
-use Rattle.walk.proofs.forms.+forms.Answers.NeedsArgsHelperform as args-helperform-needs
-use Rattle.walk.proofs.forms.+forms.Answers.NeedsBoth as both-needs
-use Rattle.walk.proofs.forms.+forms.Answers.NeedsByRule as by-rule-needs
-use Rattle.walk.proofs.forms.+forms.Answers.NeedsChild as child-needs
-use Rattle.walk.proofs.forms.+forms.Answers.NeedsHelpers as helpers-needs
-use Rattle.walk.proofs.forms.+forms.Answers.NeedsInCompileform as in-compileform-needs
-use Rattle.walk.proofs.forms.+forms.Answers.NeedsInHelperform as in-helperform-needs
-use Rattle.walk.proofs.forms.+forms.Answers.NeedsListed as listed-needs
-use Rattle.walk.proofs.forms.+forms.Answers.NeedsParts as parts-needs
-use Rattle.walk.proofs.forms.+forms.Answers.NeedsRenewed as renewed-needs
-use Rattle.walk.proofs.forms.+forms.Answers.NeedsRest as rest-needs
+-- The rules on H records and CF meet their contracts. Assumes nothing.
+use mathlib.Core.Bool.{true, false}
+use mathlib.Core.Path.{◌≡◌, refl}
+use native.Mathlib.Omega.{arith}
+use Prim.Native.Nat.{ℕ}
+use Rattle.std.proofs.lemmas.Result.{err_from_is_err_and}
+use Rattle.names.specs.Maps.{NameMap}
+use Rattle.names.specs.Names.{Bytes}
+use Rattle.names.proofs.Frames.{movable_up}
+use Rattle.records.specs.StepAnswer.{Outcome}
+use Rattle.walk.specs.FormWalks.{TreeOf, TreeReady, by_args, AfterReady, RenewedReady}
+use Rattle.walk.specs.declared.Child.{Child}
+use Rattle.walk.specs.declared.Child.TheVariants.{Bodyform, Helperform, Compileform}
+use Rattle.walk.specs.declared.Rest.{Rest}
+use Rattle.walk.specs.declared.Rest.TheVariants.{OneBody, OneForm, Listed, Parts}
+use Rattle.walk.specs.declared.Task.{Task}
+use Rattle.walk.specs.declared.Way.{Way}
+use Rattle.walk.specs.declared.Way.TheVariants.{Further}
+use Rattle.walk.proofs.AfterLaws.{after_copies, after_rest, after_stopped, after_sums, after_finished}
+use Rattle.walk.proofs.BothRestLaws.{own_ready, own_refused, own_ends, further_ready, further_refused, further_moves, both_walks}
+use Rattle.walk.proofs.ChildLaws.{ready_at, walks_at, child_refused, child_sumable, child_counted}
+use Rattle.walk.proofs.FormDispatch.{constant_kept, macro_kept, macro_renewed, function_kept, function_renewed, namespace_kept, namespace_counted, own_kept, in_kept}
+use Rattle.walk.proofs.FormParts.{form_opens, form_renews, form_counted}
+use Rattle.walk.proofs.HelperTurns.{turns_start, turns_end, wide, turn_low, turn_ready, turn_refused, turn_on}
+use Rattle.walk.proofs.ListedLaws.{helpers_ready, listed_refused as list_refused, listed_sums, listed_done}
+use Rattle.walk.proofs.Opening.{Keeping, Renewing, opened_within, opened, closed}
+use Rattle.walk.proofs.PartsLaws.{listed_ready, listed_refused, listed_read, listed_short, listed_ends, body_ready, body_refused, body_read, body_short, parts_walk}
+use borrow.Author.Rules.{rules}
+use Rattle.records.specs.declared.HelperMark.TheVariants.{Constant, Macro, Function, Namespace}
+use Rattle.records.proofs.Marks.{helper_placed, helper_other}
+use Rattle.walk.proofs.RenewedLaws.{renewed_copies, renewed_args, renewed_stopped, renewed_places, renewed_both, renewed_halted, renewed_sums, renewed_finished}
+use Rattle.walk.proofs.RestKinds.{rest_as, rest_walks, body_asks, form_asks}
+use Rattle.walk.proofs.WayLaws.{own_fresh, in_fresh}
 use Rattle.walk.proofs.forms.+forms.Goals as goal
-use mathlib.Core.List.{[]}
 
-pub after-copy-requires : goal.after-copy-requires
-after-copy-requires t c = after_needs.copy-requires t c ([], tt)
+-- what `after` asks of a record that opens as a head and a rest
+keeps : {k : Child} {rest : Rest} {way : Way} {mem : Bytes} {t : Task} {at : ℕ} {answer : NameMap → TreeOf k → Outcome (TreeOf k)} → (way ≡ Further → ⊥)
+    → (p : TreeReady k (by_args way) mem t) → Keeping k rest way answer t at p.tree → AfterReady rest way mem at t
+keeps fresh p o = record { fresh = fresh; within = opened_within p o; ready = opened p o }
 
-pub after-slice_bounds-rest-count : goal.after-slice_bounds-rest-count
-after-slice_bounds-rest-count t c = after_needs.sub-rest t c.before
+-- and `renewed`, of one with args before its rest
+renews : {k : Child} {rest : Rest} {mem : Bytes} {t : Task} {at : ℕ} (p : TreeReady k true mem t) → Renewing k rest t at p.tree → RenewedReady rest mem at t
+renews p o = record { within = opened_within p o; ready = opened p o }
 
-pub after-slice_bounds-rest-start : goal.after-slice_bounds-rest-start
-after-slice_bounds-rest-start t c = after_needs.part-rest-start t c.before
-
-pub after-slice_bounds-rest-end : goal.after-slice_bounds-rest-end
-after-slice_bounds-rest-end t c = after_needs.part-rest-end t c.before
-
-pub after-overflow_sub-t : goal.after-overflow_sub-t
-after-overflow_sub-t t c = after_needs.sub-t19 t c
-
-pub after-rest-requires : goal.after-rest-requires
-after-rest-requires t c = after_needs.rest-requires t c ([], tt)
-
-pub after-overflow_add-at : goal.after-overflow_add-at
-after-overflow_add-at t c = after_needs.add-finished t c.before
-
-pub after-overflow_add-at-in-Done : goal.after-overflow_add-at-in-Done
-after-overflow_add-at-in-Done t c = after_needs.add-finished-2 t c.before
-
-pub after-finished-requires : goal.after-finished-requires
-after-finished-requires t c = after_needs.finished-requires t c.before tt
-
-pub after-returns-in-Refused : goal.after-returns-in-Refused
-after-returns-in-Refused t c = after_needs.returns t c.before
-
-pub after-returns-in-Done : goal.after-returns-in-Done
-after-returns-in-Done t c = after_needs.returns-2 t c.before
-
-pub args_compileform-form_view-v-requires : goal.args_compileform-form_view-v-requires
-args_compileform-form_view-v-requires t c = args-compileform-needs.form-view-requires t c ([], tt)
-
-pub args_compileform-renewed-requires : goal.args_compileform-renewed-requires
-args_compileform-renewed-requires t c = args-compileform-needs.renewed-requires t c ([], tt)
-
-pub args_compileform-returns : goal.args_compileform-returns
-args_compileform-returns t c = args-compileform-needs.returns t c.before
-
-pub args_helperform-helper_mark-k-requires : goal.args_helperform-helper_mark-k-requires
-args_helperform-helper_mark-k-requires t c = args-helperform-needs.helper-mark-requires t c ([], tt)
-
-pub args_helperform-constant_view-v-requires : goal.args_helperform-constant_view-v-requires
-args_helperform-constant_view-v-requires t c = args-helperform-needs.constant-view-requires t c ([], tt)
+-- `args_helperform`
 
 pub args_helperform-after-requires : goal.args_helperform-after-requires
-args_helperform-after-requires t c = args-helperform-needs.after-requires t c ([], tt)
-
-pub args_helperform-macro_view-v-requires : goal.args_helperform-macro_view-v-requires
-args_helperform-macro_view-v-requires t c = args-helperform-needs.macro-view-requires t c ([], tt)
+args_helperform-after-requires t c =
+    (omega arith, keeps own_fresh c.requires (constant_kept (helper_placed c.in-Some-Constant.field-0-is c.in-Some-Constant.ensures) c.requires refl c.constant_view-v.ensures))
 
 pub args_helperform-renewed-requires : goal.args_helperform-renewed-requires
-args_helperform-renewed-requires t c = args-helperform-needs.renewed-requires t c ([], tt)
+args_helperform-renewed-requires t c =
+    (omega arith, renews c.requires (macro_renewed (helper_placed c.in-Some-Macro.field-0-is c.in-Some-Macro.ensures) c.requires refl c.macro_view-v.ensures))
 
-pub args_helperform-function_view-v-requires : goal.args_helperform-function_view-v-requires
-args_helperform-function_view-v-requires t c = args-helperform-needs.function-view-requires t c ([], tt)
-
-pub args_helperform-renewed-requires-in-2 : goal.args_helperform-renewed-requires-in-2
-args_helperform-renewed-requires-in-2 t c = args-helperform-needs.renewed-requires-2 t c ([], tt)
-
-pub args_helperform-namespace_view-v-requires : goal.args_helperform-namespace_view-v-requires
-args_helperform-namespace_view-v-requires t c = args-helperform-needs.namespace-view-requires t c ([], tt)
+pub args_helperform-renewed-requires-in-Some-Function : goal.args_helperform-renewed-requires-in-Some-Function
+args_helperform-renewed-requires-in-Some-Function t c =
+    (omega arith, renews c.requires (function_renewed (helper_placed c.in-Some-Function.field-0-is c.in-Some-Function.ensures) c.requires refl c.function_view-v.ensures))
 
 pub args_helperform-overflow_sub-v : goal.args_helperform-overflow_sub-v
-args_helperform-overflow_sub-v t c = args-helperform-needs.sub-after t c
+args_helperform-overflow_sub-v t c = namespace_counted (helper_placed c.in-Some-Namespace.field-0-is c.in-Some-Namespace.ensures) c.requires refl c.namespace_view-v.ensures
 
-pub args_helperform-after-requires-in-3 : goal.args_helperform-after-requires-in-3
-args_helperform-after-requires-in-3 t c = args-helperform-needs.after-requires-2 t c ([], tt)
+pub args_helperform-after-requires-in-Some-Namespace : goal.args_helperform-after-requires-in-Some-Namespace
+args_helperform-after-requires-in-Some-Namespace t c =
+    (omega arith, keeps own_fresh c.requires (namespace_kept (helper_placed c.in-Some-Namespace.field-0-is c.in-Some-Namespace.ensures) c.requires refl c.namespace_view-v.ensures))
 
-pub args_helperform-keep_helper-requires : goal.args_helperform-keep_helper-requires
-args_helperform-keep_helper-requires t c = args-helperform-needs.keep-helper-requires t c ([], tt)
+pub args_helperform-returns-in-Some-Constant : goal.args_helperform-returns-in-Some-Constant
+args_helperform-returns-in-Some-Constant t c =
+    closed c.requires (constant_kept (helper_placed c.in-Some-Constant.field-0-is c.in-Some-Constant.ensures) c.requires refl c.constant_view-v.ensures) c.after.ensures
 
-pub args_helperform-returns-in-0 : goal.args_helperform-returns-in-0
-args_helperform-returns-in-0 t c = args-helperform-needs.returns t c.before
+pub args_helperform-returns-in-Some-Macro : goal.args_helperform-returns-in-Some-Macro
+args_helperform-returns-in-Some-Macro t c =
+    closed c.requires (macro_renewed (helper_placed c.in-Some-Macro.field-0-is c.in-Some-Macro.ensures) c.requires refl c.macro_view-v.ensures) c.renewed.ensures
 
-pub args_helperform-returns-in-1 : goal.args_helperform-returns-in-1
-args_helperform-returns-in-1 t c = args-helperform-needs.returns-2 t c.before
+pub args_helperform-returns-in-Some-Function : goal.args_helperform-returns-in-Some-Function
+args_helperform-returns-in-Some-Function t c =
+    closed c.requires (function_renewed (helper_placed c.in-Some-Function.field-0-is c.in-Some-Function.ensures) c.requires refl c.function_view-v.ensures) c.renewed-in-Some-Function.ensures
 
-pub args_helperform-returns-in-2 : goal.args_helperform-returns-in-2
-args_helperform-returns-in-2 t c = args-helperform-needs.returns-3 t c.before
-
-pub args_helperform-returns-in-3 : goal.args_helperform-returns-in-3
-args_helperform-returns-in-3 t c = args-helperform-needs.returns-4 t c.before
+pub args_helperform-returns-in-Some-Namespace : goal.args_helperform-returns-in-Some-Namespace
+args_helperform-returns-in-Some-Namespace t c =
+    closed c.requires (namespace_kept (helper_placed c.in-Some-Namespace.field-0-is c.in-Some-Namespace.ensures) c.requires refl c.namespace_view-v.ensures) c.after-in-Some-Namespace.ensures
 
 pub args_helperform-returns-in_default : goal.args_helperform-returns-in_default
-args_helperform-returns-in_default t c = args-helperform-needs.returns-5 t c.before
+args_helperform-returns-in_default t c =
+    let e = c.helper_mark.ensures in
+    own_kept refl c.keep_helper.ensures (helper_other Constant e (search rules)) (helper_other Macro e (search rules)) (helper_other Function e (search rules)) (helper_other Namespace e (search rules))
 
-pub both-overflow_sub-top : goal.both-overflow_sub-top
-both-overflow_sub-top t c = both-needs.sub-top t c.before
-
-pub both-slice_bounds-rest-end : goal.both-slice_bounds-rest-end
-both-slice_bounds-rest-end t c = both-needs.slice-relend-prefix-rest t c.before
-
-pub both-slice_bounds-rest-end-2 : goal.both-slice_bounds-rest-end-2
-both-slice_bounds-rest-end-2 t c = both-needs.slice-aggregate-rest t c
-
-pub both-rest-requires : goal.both-rest-requires
-both-rest-requires t c = both-needs.rest-requires t c ([], tt)
-
-pub both-slice_bounds-rest-count : goal.both-slice_bounds-rest-count
-both-slice_bounds-rest-count t c = both-needs.sub-rest t c.before
-
-pub both-slice_bounds-rest-start : goal.both-slice_bounds-rest-start
-both-slice_bounds-rest-start t c = both-needs.part-rest-start t c.before
-
-pub both-slice_bounds-rest-end-in-Done : goal.both-slice_bounds-rest-end-in-Done
-both-slice_bounds-rest-end-in-Done t c = both-needs.part-rest-end t c.before
-
-pub both-rest-requires-in-Done : goal.both-rest-requires-in-Done
-both-rest-requires-in-Done t c = both-needs.rest-requires-2 t c ([], tt)
-
-pub both-overflow_add-to : goal.both-overflow_add-to
-both-overflow_add-to t c = both-needs.add-copy t c
-
-pub both-copy-requires : goal.both-copy-requires
-both-copy-requires t c = both-needs.copy-requires t c ([], tt)
-
-pub both-returns-in-Refused : goal.both-returns-in-Refused
-both-returns-in-Refused t c = both-needs.returns t c.before
-
-pub both-returns-in-Refused-rest : goal.both-returns-in-Refused-rest
-both-returns-in-Refused-rest t c = both-needs.returns-2 t c.before
-
-pub both-returns-in-Done-rest : goal.both-returns-in-Done-rest
-both-returns-in-Done-rest t c = both-needs.returns-3 t c.before
-
-pub by_rule-either-requires : goal.by_rule-either-requires
-by_rule-either-requires t c = by-rule-needs.either-requires t c ([], tt)
-
-pub by_rule-args_helperform-requires : goal.by_rule-args_helperform-requires
-by_rule-args_helperform-requires t c = by-rule-needs.args-helperform-requires t c ([], tt)
-
-pub by_rule-returns-then-owning : goal.by_rule-returns-then-owning
-by_rule-returns-then-owning t c = by-rule-needs.returns t c.before
-
-pub by_rule-in_helperform-requires : goal.by_rule-in_helperform-requires
-by_rule-in_helperform-requires t c = by-rule-needs.in-helperform-requires t c ([], tt)
-
-pub by_rule-args_compileform-requires : goal.by_rule-args_compileform-requires
-by_rule-args_compileform-requires t c = by-rule-needs.args-compileform-requires t c ([], tt)
-
-pub by_rule-returns-then-owning-2 : goal.by_rule-returns-then-owning-2
-by_rule-returns-then-owning-2 t c = by-rule-needs.returns-2 t c.before
-
-pub by_rule-in_compileform-requires : goal.by_rule-in_compileform-requires
-by_rule-in_compileform-requires t c = by-rule-needs.in-compileform-requires t c ([], tt)
-
-pub by_rule-returns-in-Bodyform : goal.by_rule-returns-in-Bodyform
-by_rule-returns-in-Bodyform t c = by-rule-needs.returns-3 t c.before
-
-pub by_rule-returns-else-owning : goal.by_rule-returns-else-owning
-by_rule-returns-else-owning t c = by-rule-needs.returns-4 t c.before
-
-pub by_rule-returns-else-owning-2 : goal.by_rule-returns-else-owning-2
-by_rule-returns-else-owning-2 t c = by-rule-needs.returns-5 t c.before
-
-pub child-by_args-requires : goal.child-by_args-requires
-child-by_args-requires t c = child-needs.by-args-requires t c tt
-
-pub child-by_rule-requires : goal.child-by_rule-requires
-child-by_rule-requires t c = child-needs.by-rule-requires t c ([], tt)
-
-pub child-counted-requires : goal.child-counted-requires
-child-counted-requires t c = child-needs.counted-requires t c.before tt
-
-pub child-returns-in-Refused : goal.child-returns-in-Refused
-child-returns-in-Refused t c = child-needs.returns t c.before
-
-pub child-returns-in-Done : goal.child-returns-in-Done
-child-returns-in-Done t c = child-needs.returns-2 t c.before
-
-pub helpers-loop-i-init : goal.helpers-loop-i-init
-helpers-loop-i-init t c = helpers-needs.loop-holds t c.before
-
-pub helpers-slice_bounds-child-count : goal.helpers-slice_bounds-child-count
-helpers-slice_bounds-child-count t c = helpers-needs.sub-child t c
-
-pub helpers-slice_bounds-child-start : goal.helpers-slice_bounds-child-start
-helpers-slice_bounds-child-start t c = helpers-needs.part-child-start t c
-
-pub helpers-slice_bounds-child-end : goal.helpers-slice_bounds-child-end
-helpers-slice_bounds-child-end t c = helpers-needs.part-child-end t c
-
-pub helpers-overflow_sub-to : goal.helpers-overflow_sub-to
-helpers-overflow_sub-to t c = helpers-needs.sub-t23 t c
-
-pub helpers-child-requires : goal.helpers-child-requires
-helpers-child-requires t c = helpers-needs.child-requires t c ([], tt)
-
-pub helpers-returns-in-Refused : goal.helpers-returns-in-Refused
-helpers-returns-in-Refused t c = helpers-needs.returns t c.before
-
-pub helpers-overflow_add-at : goal.helpers-overflow_add-at
-helpers-overflow_add-at t c = helpers-needs.add_at t c.before
-
-pub helpers-overflow_add-to : goal.helpers-overflow_add-to
-helpers-overflow_add-to t c = helpers-needs.add-to t c.before
-
-pub helpers-overflow_add-i : goal.helpers-overflow_add-i
-helpers-overflow_add-i t c = helpers-needs.add-i t c.before
-
-pub helpers-loop-i-smaller : goal.helpers-loop-i-smaller
-helpers-loop-i-smaller t c = helpers-needs.loop-less t c.before
-
-pub helpers-loop-i-preserved : goal.helpers-loop-i-preserved
-helpers-loop-i-preserved t c = helpers-needs.loop-again t c.before
-
-pub helpers-overflow_sub-result : goal.helpers-overflow_sub-result
-helpers-overflow_sub-result t c = helpers-needs.sub-t25 t c
-
-pub helpers-returns : goal.helpers-returns
-helpers-returns t c = helpers-needs.returns-2 t c
-
-pub in_compileform-form_view-v-requires : goal.in_compileform-form_view-v-requires
-in_compileform-form_view-v-requires t c = in-compileform-needs.form-view-requires t c ([], tt)
-
-pub in_compileform-overflow_sub-v : goal.in_compileform-overflow_sub-v
-in_compileform-overflow_sub-v t c = in-compileform-needs.sub-after t c
-
-pub in_compileform-after-requires : goal.in_compileform-after-requires
-in_compileform-after-requires t c = in-compileform-needs.after-requires t c ([], tt)
-
-pub in_compileform-returns : goal.in_compileform-returns
-in_compileform-returns t c = in-compileform-needs.returns t c.before
-
-pub in_helperform-helper_mark-k-requires : goal.in_helperform-helper_mark-k-requires
-in_helperform-helper_mark-k-requires t c = in-helperform-needs.helper-mark-requires t c ([], tt)
-
-pub in_helperform-constant_view-v-requires : goal.in_helperform-constant_view-v-requires
-in_helperform-constant_view-v-requires t c = in-helperform-needs.constant-view-requires t c ([], tt)
+-- `in_helperform`
 
 pub in_helperform-after-requires : goal.in_helperform-after-requires
-in_helperform-after-requires t c = in-helperform-needs.after-requires t c ([], tt)
+in_helperform-after-requires t c =
+    (omega arith, keeps in_fresh c.requires (constant_kept (helper_placed c.in-Some-Constant.field-0-is c.in-Some-Constant.ensures) c.requires refl c.constant_view-v.ensures))
 
-pub in_helperform-macro_view-v-requires : goal.in_helperform-macro_view-v-requires
-in_helperform-macro_view-v-requires t c = in-helperform-needs.macro-view-requires t c ([], tt)
+pub in_helperform-after-requires-in-Some-Macro : goal.in_helperform-after-requires-in-Some-Macro
+in_helperform-after-requires-in-Some-Macro t c =
+    (omega arith, keeps in_fresh c.requires (macro_kept (helper_placed c.in-Some-Macro.field-0-is c.in-Some-Macro.ensures) c.requires refl c.macro_view-v.ensures))
 
-pub in_helperform-after-requires-in-1 : goal.in_helperform-after-requires-in-1
-in_helperform-after-requires-in-1 t c = in-helperform-needs.after-requires-2 t c ([], tt)
+pub in_helperform-after-requires-in-Some-Function : goal.in_helperform-after-requires-in-Some-Function
+in_helperform-after-requires-in-Some-Function t c =
+    (omega arith, keeps in_fresh c.requires (function_kept (helper_placed c.in-Some-Function.field-0-is c.in-Some-Function.ensures) c.requires refl c.function_view-v.ensures))
 
-pub in_helperform-function_view-v-requires : goal.in_helperform-function_view-v-requires
-in_helperform-function_view-v-requires t c = in-helperform-needs.function-view-requires t c ([], tt)
+pub in_helperform-returns-in-Some-Constant : goal.in_helperform-returns-in-Some-Constant
+in_helperform-returns-in-Some-Constant t c =
+    closed c.requires (constant_kept (helper_placed c.in-Some-Constant.field-0-is c.in-Some-Constant.ensures) c.requires refl c.constant_view-v.ensures) c.after.ensures
 
-pub in_helperform-after-requires-in-2 : goal.in_helperform-after-requires-in-2
-in_helperform-after-requires-in-2 t c = in-helperform-needs.after-requires-3 t c ([], tt)
+pub in_helperform-returns-in-Some-Macro : goal.in_helperform-returns-in-Some-Macro
+in_helperform-returns-in-Some-Macro t c =
+    closed c.requires (macro_kept (helper_placed c.in-Some-Macro.field-0-is c.in-Some-Macro.ensures) c.requires refl c.macro_view-v.ensures) c.after-in-Some-Macro.ensures
 
-pub in_helperform-keep_helper-requires : goal.in_helperform-keep_helper-requires
-in_helperform-keep_helper-requires t c = in-helperform-needs.keep-helper-requires t c ([], tt)
-
-pub in_helperform-returns-in-0 : goal.in_helperform-returns-in-0
-in_helperform-returns-in-0 t c = in-helperform-needs.returns t c.before
-
-pub in_helperform-returns-in-1 : goal.in_helperform-returns-in-1
-in_helperform-returns-in-1 t c = in-helperform-needs.returns-2 t c.before
-
-pub in_helperform-returns-in-2 : goal.in_helperform-returns-in-2
-in_helperform-returns-in-2 t c = in-helperform-needs.returns-3 t c.before
+pub in_helperform-returns-in-Some-Function : goal.in_helperform-returns-in-Some-Function
+in_helperform-returns-in-Some-Function t c =
+    closed c.requires (function_kept (helper_placed c.in-Some-Function.field-0-is c.in-Some-Function.ensures) c.requires refl c.function_view-v.ensures) c.after-in-Some-Function.ensures
 
 pub in_helperform-returns-in_default : goal.in_helperform-returns-in_default
-in_helperform-returns-in_default t c = in-helperform-needs.returns-4 t c.before
+in_helperform-returns-in_default t c =
+    let e = c.helper_mark.ensures in
+    in_kept refl c.keep_helper.ensures (helper_other Constant e (search rules)) (helper_other Macro e (search rules)) (helper_other Function e (search rules))
 
-pub listed-bounds-mem-0 : goal.listed-bounds-mem-0
-listed-bounds-mem-0 t c = listed-needs.slice-read-count t c.before
+-- `args_compileform` and `in_compileform`
 
-pub listed-bounds-mem-to : goal.listed-bounds-mem-to
-listed-bounds-mem-to t c = listed-needs.slice-write-mem t c
+pub args_compileform-renewed-requires : goal.args_compileform-renewed-requires
+args_compileform-renewed-requires t c =
+    let p = c.requires in (omega arith, renews p (form_renews c.args.t c.form_view-v.ensures p.tree p.good p.there))
 
-pub listed-slice_bounds-helpers-count : goal.listed-slice_bounds-helpers-count
-listed-slice_bounds-helpers-count t c = listed-needs.sub-helpers t c
+pub args_compileform-returns : goal.args_compileform-returns
+args_compileform-returns t c =
+    let p = c.requires in closed p (form_renews c.args.t c.form_view-v.ensures p.tree p.good p.there) c.renewed.ensures
 
-pub listed-slice_bounds-helpers-start : goal.listed-slice_bounds-helpers-start
-listed-slice_bounds-helpers-start t c = listed-needs.part-helpers-start t c
+pub in_compileform-overflow_sub-v : goal.in_compileform-overflow_sub-v
+in_compileform-overflow_sub-v t c = let p = c.requires in form_counted c.args.t c.form_view-v.ensures p.tree p.good p.there
 
-pub listed-slice_bounds-helpers-end : goal.listed-slice_bounds-helpers-end
-listed-slice_bounds-helpers-end t c = listed-needs.part-helpers-end t c
+pub in_compileform-after-requires : goal.in_compileform-after-requires
+in_compileform-after-requires t c =
+    let p = c.requires in (omega arith, keeps in_fresh p (form_opens c.args.t c.form_view-v.ensures p.tree p.good p.there))
 
-pub listed-helpers-requires : goal.listed-helpers-requires
-listed-helpers-requires t c = listed-needs.helpers-requires t c ([], tt)
+pub in_compileform-returns : goal.in_compileform-returns
+in_compileform-returns t c =
+    let p = c.requires in closed p (form_opens c.args.t c.form_view-v.ensures p.tree p.good p.there) c.after.ensures
 
-pub listed-overflow_add-result : goal.listed-overflow_add-result
-listed-overflow_add-result t c = listed-needs.add-t21 t c.before
+-- `after`
 
-pub listed-overflow_add-result-in-Done : goal.listed-overflow_add-result-in-Done
-listed-overflow_add-result-in-Done t c = listed-needs.add-t22 t c.before
+pub after-copy-requires : goal.after-copy-requires
+after-copy-requires t c = let x = after_copies c.requires in movable_up (omega (arith, x.0)) (omega (arith, x.1))
 
-pub listed-returns-in-Refused : goal.listed-returns-in-Refused
-listed-returns-in-Refused t c = listed-needs.returns t c.before
+pub after-rest-requires : goal.after-rest-requires
+after-rest-requires t c =
+    (omega (arith, c.requires.ready.good.level), after_rest c.requires c.copy.ensures c.requires.fresh)
 
-pub listed-returns-in-Done : goal.listed-returns-in-Done
-listed-returns-in-Done t c = listed-needs.returns-2 t c.before
+pub after-returns-in_err-all : goal.after-returns-in_err-all
+after-returns-in_err-all t c =
+    let p = err_from_is_err_and c.from_residual.result c.from_residual.ensures.1 in
+    rw (p.1, p.2) (after_stopped c.requires c.copy.ensures c.rest.ensures _ c.in_err-all.was)
 
-pub parts-listed-requires : goal.parts-listed-requires
-parts-listed-requires t c = parts-needs.listed-requires t c ([], tt)
+pub after-overflow_add-at : goal.after-overflow_add-at
+after-overflow_add-at t c = let x = after_sums c.requires c.copy.ensures c.rest.ensures _ _ _ _ c.in_ok-all.was in omega (arith, x.0)
 
-pub parts-slice_bounds-child-count : goal.parts-slice_bounds-child-count
-parts-slice_bounds-child-count t c = parts-needs.sub-child t c.before
+pub after-overflow_add-at-2 : goal.after-overflow_add-at-2
+after-overflow_add-at-2 t c = let x = after_sums c.requires c.copy.ensures c.rest.ensures _ _ _ _ c.in_ok-all.was in omega (arith, x.1)
 
-pub parts-slice_bounds-child-start : goal.parts-slice_bounds-child-start
-parts-slice_bounds-child-start t c = parts-needs.part-child-start t c.before
+pub after-returns : goal.after-returns
+after-returns t c = after_finished c.requires c.copy.ensures c.rest.ensures _ _ _ _ c.in_ok-all.was c.finished.ensures
 
-pub parts-slice_bounds-child-end : goal.parts-slice_bounds-child-end
-parts-slice_bounds-child-end t c = parts-needs.part-child-end t c.before
-
-pub parts-overflow_add-t : goal.parts-overflow_add-t
-parts-overflow_add-t t c = parts-needs.add-t25 t c
-
-pub parts-overflow_sub-t : goal.parts-overflow_sub-t
-parts-overflow_sub-t t c = parts-needs.sub-t26 t c
-
-pub parts-child-requires : goal.parts-child-requires
-parts-child-requires t c = parts-needs.child-requires t c ([], tt)
-
-pub parts-overflow_add-result : goal.parts-overflow_add-result
-parts-overflow_add-result t c = parts-needs.add-t29 t c.before
-
-pub parts-overflow_add-result-in-Done-child : goal.parts-overflow_add-result-in-Done-child
-parts-overflow_add-result-in-Done-child t c = parts-needs.add-t30 t c.before
-
-pub parts-returns-in-Refused : goal.parts-returns-in-Refused
-parts-returns-in-Refused t c = parts-needs.returns t c.before
-
-pub parts-returns-in-Refused-child : goal.parts-returns-in-Refused-child
-parts-returns-in-Refused-child t c = parts-needs.returns-2 t c.before
-
-pub parts-returns-in-Done-child : goal.parts-returns-in-Done-child
-parts-returns-in-Done-child t c = parts-needs.returns-3 t c.before
+-- `renewed`
 
 pub renewed-copy-requires : goal.renewed-copy-requires
-renewed-copy-requires t c = renewed-needs.copy-requires t c ([], tt)
-
-pub renewed-slice_bounds-new_args-count : goal.renewed-slice_bounds-new_args-count
-renewed-slice_bounds-new_args-count t c = renewed-needs.sub-new-args t c.before
-
-pub renewed-slice_bounds-new_args-start : goal.renewed-slice_bounds-new_args-start
-renewed-slice_bounds-new_args-start t c = renewed-needs.part-new-args-start t c.before
-
-pub renewed-slice_bounds-new_args-end : goal.renewed-slice_bounds-new_args-end
-renewed-slice_bounds-new_args-end t c = renewed-needs.part-new-args-end t c.before
+renewed-copy-requires t c = let x = renewed_copies c.requires in movable_up (omega (arith, x.0)) (omega (arith, x.1))
 
 pub renewed-new_args-requires : goal.renewed-new_args-requires
-renewed-new_args-requires t c = renewed-needs.new-args-requires t c ([], tt)
+renewed-new_args-requires t c = renewed_args c.requires c.copy.ensures
+
+pub renewed-returns-in_err-new : goal.renewed-returns-in_err-new
+renewed-returns-in_err-new t c =
+    let p = err_from_is_err_and c.from_residual.result c.from_residual.ensures.1 in
+    rw (p.1, p.2) (renewed_stopped c.requires c.copy.ensures c.new_args.ensures _ c.in_err-new.was)
 
 pub renewed-overflow_add-q : goal.renewed-overflow_add-q
-renewed-overflow_add-q t c = renewed-needs.add-q t c.before
+renewed-overflow_add-q t c =
+    let x = renewed_places c.requires c.copy.ensures c.new_args.ensures _ _ _ _ c.in_ok-new.was in
+    omega (arith, x.0)
+
+pub renewed-overflow_add-behind-2 : goal.renewed-overflow_add-behind-2
+renewed-overflow_add-behind-2 t c =
+    let x = renewed_places c.requires c.copy.ensures c.new_args.ensures _ _ _ _ c.in_ok-new.was in
+    omega (arith, x.2)
+
+pub renewed-overflow_sub-behind : goal.renewed-overflow_sub-behind
+renewed-overflow_sub-behind t c =
+    let x = renewed_places c.requires c.copy.ensures c.new_args.ensures _ _ _ _ c.in_ok-new.was in
+    omega (arith, x.1)
 
 pub renewed-slice_bounds-both-count : goal.renewed-slice_bounds-both-count
-renewed-slice_bounds-both-count t c = renewed-needs.sub-both t c.before
+renewed-slice_bounds-both-count t c =
+    let x = renewed_places c.requires c.copy.ensures c.new_args.ensures _ _ _ _ c.in_ok-new.was in
+    omega (arith, x.0, x.2)
 
 pub renewed-slice_bounds-both-start : goal.renewed-slice_bounds-both-start
-renewed-slice_bounds-both-start t c = renewed-needs.part-both-start t c.before
-
-pub renewed-slice_bounds-both-end : goal.renewed-slice_bounds-both-end
-renewed-slice_bounds-both-end t c = renewed-needs.part-both-end t c.before
-
-pub renewed-overflow_add-free : goal.renewed-overflow_add-free
-renewed-overflow_add-free t c = renewed-needs.add-t30 t c
-
-pub renewed-overflow_add-free-in-Done : goal.renewed-overflow_add-free-in-Done
-renewed-overflow_add-free-in-Done t c = renewed-needs.add-t31 t c
-
-pub renewed-overflow_sub-free : goal.renewed-overflow_sub-free
-renewed-overflow_sub-free t c = renewed-needs.sub-t32 t c
-
-pub renewed-overflow_sub-t : goal.renewed-overflow_sub-t
-renewed-overflow_sub-t t c = renewed-needs.sub-t33 t c
+renewed-slice_bounds-both-start t c =
+    let x = renewed_places c.requires c.copy.ensures c.new_args.ensures _ _ _ _ c.in_ok-new.was in
+    omega (arith, x.0, x.2)
 
 pub renewed-both-requires : goal.renewed-both-requires
-renewed-both-requires t c = renewed-needs.both-requires t c ([], tt)
+renewed-both-requires t c =
+    (omega (arith, c.requires.ready.good.levels), renewed_both c.requires c.copy.ensures c.new_args.ensures _ _ _ _ c.in_ok-new.was)
 
-pub renewed-overflow_add-q-in-Done-both : goal.renewed-overflow_add-q-in-Done-both
-renewed-overflow_add-q-in-Done-both t c = renewed-needs.add-finished t c.before
+pub renewed-returns-in_err-all : goal.renewed-returns-in_err-all
+renewed-returns-in_err-all t c =
+    let p = err_from_is_err_and c.from_residual-in_err-all.result c.from_residual-in_err-all.ensures.1 in
+    rw (p.1, p.2) (renewed_halted c.requires c.copy.ensures c.new_args.ensures _ _ _ _ c.in_ok-new.was c.both.ensures _ c.in_err-all.was)
+
+pub renewed-overflow_add-q-2 : goal.renewed-overflow_add-q-2
+renewed-overflow_add-q-2 t c =
+    let x = renewed_sums c.requires c.copy.ensures c.new_args.ensures _ _ _ _ c.in_ok-new.was c.both.ensures _ _ _ _ c.in_ok-all.was in
+    omega (arith, x.0)
 
 pub renewed-overflow_add-args : goal.renewed-overflow_add-args
-renewed-overflow_add-args t c = renewed-needs.add-finished-2 t c.before
+renewed-overflow_add-args t c =
+    let x = renewed_sums c.requires c.copy.ensures c.new_args.ensures _ _ _ _ c.in_ok-new.was c.both.ensures _ _ _ _ c.in_ok-all.was in
+    omega (arith, x.1)
 
-pub renewed-overflow_add-args-in-Done-both : goal.renewed-overflow_add-args-in-Done-both
-renewed-overflow_add-args-in-Done-both t c = renewed-needs.add-finished-3 t c.before
+pub renewed-overflow_add-args-2 : goal.renewed-overflow_add-args-2
+renewed-overflow_add-args-2 t c =
+    let x = renewed_sums c.requires c.copy.ensures c.new_args.ensures _ _ _ _ c.in_ok-new.was c.both.ensures _ _ _ _ c.in_ok-all.was in
+    omega (arith, x.1)
 
-pub renewed-finished-requires : goal.renewed-finished-requires
-renewed-finished-requires t c = renewed-needs.finished-requires t c.before tt
+pub renewed-returns : goal.renewed-returns
+renewed-returns t c =
+    renewed_finished c.requires c.copy.ensures c.new_args.ensures _ _ _ _ c.in_ok-new.was c.both.ensures _ _ _ _ c.in_ok-all.was c.finished.ensures
 
-pub renewed-returns-in-Refused : goal.renewed-returns-in-Refused
-renewed-returns-in-Refused t c = renewed-needs.returns t c.before
+-- `both`
 
-pub renewed-returns-in-Refused-both : goal.renewed-returns-in-Refused-both
-renewed-returns-in-Refused-both t c = renewed-needs.returns-2 t c.before
+pub both-rest-requires : goal.both-rest-requires
+both-rest-requires t c = (omega arith, own_ready c.requires)
 
-pub renewed-returns-in-Done-both : goal.renewed-returns-in-Done-both
-renewed-returns-in-Done-both t c = renewed-needs.returns-3 t c.before
+pub both-returns-in_err-own : goal.both-returns-in_err-own
+both-returns-in_err-own t c =
+    let p = err_from_is_err_and c.from_residual.result c.from_residual.ensures.1 in
+    rw (p.1, p.2) (own_refused c.requires c.rest.ensures _ c.in_err-own.was)
+
+pub both-rest-requires-2 : goal.both-rest-requires-2
+both-rest-requires-2 t c = (omega arith, further_ready c.requires c.rest.ensures _ _ _ _ c.in_ok-own.was)
+
+pub both-returns-in_err-inner : goal.both-returns-in_err-inner
+both-returns-in_err-inner t c =
+    let p = err_from_is_err_and c.from_residual-in_err-inner.result c.from_residual-in_err-inner.ensures.1 in
+    rw (p.1, p.2) (further_refused c.requires c.rest.ensures _ _ _ _ c.in_ok-own.was c.rest-2.ensures _ c.in_err-inner.was)
+
+pub both-overflow_add-to : goal.both-overflow_add-to
+both-overflow_add-to t c = omega (arith, own_ends c.requires c.rest.ensures _ _ _ _ c.in_ok-own.was)
+
+pub both-copy-requires : goal.both-copy-requires
+both-copy-requires t c = further_moves c.requires c.rest.ensures _ _ _ _ c.in_ok-own.was c.rest-2.ensures _ _ _ _ c.in_ok-inner.was
+
+pub both-returns : goal.both-returns
+both-returns t c = both_walks c.requires c.rest.ensures _ _ _ _ c.in_ok-own.was c.rest-2.ensures _ _ _ _ c.in_ok-inner.was c.copy.ensures
+
+-- `rest`
 
 pub rest-child-requires : goal.rest-child-requires
-rest-child-requires t c = rest-needs.child-requires t c ([], tt)
+rest-child-requires t c = (omega arith, body_asks c.in-OneBody.is c.requires)
 
 pub rest-child-requires-in-OneForm : goal.rest-child-requires-in-OneForm
-rest-child-requires-in-OneForm t c = rest-needs.child-requires-2 t c ([], tt)
+rest-child-requires-in-OneForm t c = (omega arith, form_asks c.in-OneForm.is c.requires)
 
 pub rest-listed-requires : goal.rest-listed-requires
-rest-listed-requires t c = rest-needs.listed-requires t c ([], tt)
+rest-listed-requires t c = (omega arith, rest_as Listed c.in-Listed.is c.requires)
 
 pub rest-parts-requires : goal.rest-parts-requires
-rest-parts-requires t c = rest-needs.parts-requires t c ([], tt)
+rest-parts-requires t c = (omega arith, rest_as Parts c.in-Parts.is c.requires)
 
 pub rest-returns-in-OneBody : goal.rest-returns-in-OneBody
-rest-returns-in-OneBody t c = rest-needs.returns t c.before
+rest-returns-in-OneBody t c = rest_walks c.requires OneBody c.in-OneBody.is c.child.ensures
 
 pub rest-returns-in-OneForm : goal.rest-returns-in-OneForm
-rest-returns-in-OneForm t c = rest-needs.returns-2 t c.before
+rest-returns-in-OneForm t c = rest_walks c.requires OneForm c.in-OneForm.is c.child-in-OneForm.ensures
 
 pub rest-returns-in-Listed : goal.rest-returns-in-Listed
-rest-returns-in-Listed t c = rest-needs.returns-3 t c.before
+rest-returns-in-Listed t c = rest_walks c.requires Listed c.in-Listed.is c.listed.ensures
 
 pub rest-returns-in-Parts : goal.rest-returns-in-Parts
-rest-returns-in-Parts t c = rest-needs.returns-4 t c.before
+rest-returns-in-Parts t c = rest_walks c.requires Parts c.in-Parts.is c.parts.ensures
+
+-- `parts`
+
+pub parts-listed-requires : goal.parts-listed-requires
+parts-listed-requires t c = (omega arith, listed_ready c.requires)
+
+pub parts-returns-in_err-all : goal.parts-returns-in_err-all
+parts-returns-in_err-all t c =
+    let p = err_from_is_err_and c.from_residual.result c.from_residual.ensures.1 in
+    rw (p.1, p.2) (listed_refused c.requires c.listed.ensures _ c.in_err-all.was)
+
+pub parts-overflow_add-behind : goal.parts-overflow_add-behind
+parts-overflow_add-behind t c = omega (arith, listed_ends c.requires c.listed.ensures _ _ _ _ c.in_ok-all.was)
+
+pub parts-overflow_sub-behind : goal.parts-overflow_sub-behind
+parts-overflow_sub-behind t c = omega (arith, listed_read c.requires c.listed.ensures _ _ _ _ c.in_ok-all.was)
+
+pub parts-slice_bounds-child-count : goal.parts-slice_bounds-child-count
+parts-slice_bounds-child-count t c =
+    omega (arith, listed_read c.requires c.listed.ensures _ _ _ _ c.in_ok-all.was, listed_ends c.requires c.listed.ensures _ _ _ _ c.in_ok-all.was)
+
+pub parts-slice_bounds-child-start : goal.parts-slice_bounds-child-start
+parts-slice_bounds-child-start t c =
+    omega (arith, listed_read c.requires c.listed.ensures _ _ _ _ c.in_ok-all.was, listed_ends c.requires c.listed.ensures _ _ _ _ c.in_ok-all.was)
+
+pub parts-child-requires : goal.parts-child-requires
+parts-child-requires t c = (omega arith, body_ready c.requires c.listed.ensures _ _ _ _ c.in_ok-all.was)
+
+pub parts-returns-in_err-body : goal.parts-returns-in_err-body
+parts-returns-in_err-body t c =
+    let p = err_from_is_err_and c.from_residual-in_err-body.result c.from_residual-in_err-body.ensures.1 in
+    rw (p.1, p.2) (body_refused c.requires c.listed.ensures _ _ _ _ c.in_ok-all.was c.child.ensures _ c.in_err-body.was)
+
+pub parts-overflow_add-result : goal.parts-overflow_add-result
+parts-overflow_add-result t c =
+    omega (arith, body_read c.requires c.listed.ensures _ _ _ _ c.in_ok-all.was c.child.ensures _ _ _ _ c.in_ok-body.was)
+
+pub parts-overflow_add-result-2 : goal.parts-overflow_add-result-2
+parts-overflow_add-result-2 t c =
+    omega (
+      arith,
+      listed_short c.requires c.listed.ensures _ _ _ _ c.in_ok-all.was,
+      body_short c.requires c.listed.ensures _ _ _ _ c.in_ok-all.was c.child.ensures _ _ _ _ c.in_ok-body.was,
+      c.requires.ready.longest,
+    )
+
+pub parts-returns : goal.parts-returns
+parts-returns t c = parts_walk c.requires c.listed.ensures _ _ _ _ c.in_ok-all.was c.child.ensures _ _ _ _ c.in_ok-body.was
+
+-- `listed`
+
+pub listed-helpers-requires : goal.listed-helpers-requires
+listed-helpers-requires t c = (omega arith, helpers_ready c.requires)
+
+pub listed-returns-in_err-all : goal.listed-returns-in_err-all
+listed-returns-in_err-all t c =
+    let p = err_from_is_err_and c.from_residual.result c.from_residual.ensures.1 in
+    rw (p.1, p.2) (list_refused c.requires c.helpers.ensures _ c.in_err-all.was)
+
+pub listed-overflow_add-result : goal.listed-overflow_add-result
+listed-overflow_add-result t c = let x = listed_sums c.requires c.helpers.ensures _ _ _ _ c.in_ok-all.was in omega (arith, x.0)
+
+pub listed-overflow_add-result-2 : goal.listed-overflow_add-result-2
+listed-overflow_add-result-2 t c = let x = listed_sums c.requires c.helpers.ensures _ _ _ _ c.in_ok-all.was in omega (arith, x.1)
+
+pub listed-returns : goal.listed-returns
+listed-returns t c = listed_done c.requires c.helpers.ensures _ _ _ _ c.in_ok-all.was
+
+-- `helpers`
+
+pub helpers-loop-init : goal.helpers-loop-init
+helpers-loop-init t c = turns_start c.requires
+
+pub helpers-overflow_sub-free : goal.helpers-overflow_sub-free
+helpers-overflow_sub-free t c = turn_low c.loop.invariant c.loop-test.true
+
+pub helpers-slice_bounds-child-count : goal.helpers-slice_bounds-child-count
+helpers-slice_bounds-child-count t c = omega (arith, turn_low c.loop.invariant c.loop-test.true, wide c.loop.invariant c.loop-test.true)
+
+pub helpers-slice_bounds-child-start : goal.helpers-slice_bounds-child-start
+helpers-slice_bounds-child-start t c = omega (arith, turn_low c.loop.invariant c.loop-test.true, wide c.loop.invariant c.loop-test.true)
+
+pub helpers-child-requires : goal.helpers-child-requires
+helpers-child-requires t c = (omega arith, turn_ready c.loop.invariant c.loop-test.true)
+
+pub helpers-returns-in_err-one : goal.helpers-returns-in_err-one
+helpers-returns-in_err-one t c =
+    let p = err_from_is_err_and c.from_residual.result c.from_residual.ensures.1 in
+    rw (p.1, p.2) (turn_refused c.loop.invariant c.loop-test.true c.child.ensures _ c.in_err-one.was)
+
+pub helpers-overflow_add-at : goal.helpers-overflow_add-at
+helpers-overflow_add-at t c =
+    let x = turn_on c.loop.invariant c.loop-test.true c.child.ensures _ _ _ _ c.in_ok-one.was in omega (arith, x.read, x.asked.ready.below)
+
+pub helpers-overflow_add-to : goal.helpers-overflow_add-to
+helpers-overflow_add-to t c =
+    let x = turn_on c.loop.invariant c.loop-test.true c.child.ensures _ _ _ _ c.in_ok-one.was in omega (arith, x.place, x.out.fits)
+
+pub helpers-loop-preserved : goal.helpers-loop-preserved
+helpers-loop-preserved t c = turn_on c.loop.invariant c.loop-test.true c.child.ensures _ _ _ _ c.in_ok-one.was
+
+pub helpers-overflow_sub-result : goal.helpers-overflow_sub-result
+helpers-overflow_sub-result t c = omega (arith, c.loop.invariant.place)
+
+pub helpers-returns : goal.helpers-returns
+helpers-returns t c = turns_end c.loop.invariant c.loop-test.false
+
+-- `child`
+
+pub child-returns-in_err-s : goal.child-returns-in_err-s
+child-returns-in_err-s t c =
+    let p = err_from_is_err_and c.from_residual.result c.from_residual.ensures.1 in
+    rw (p.1, p.2) (child_refused c.requires c.by_args.ensures c.by_rule.ensures _ c.in_err-s.was)
+
+pub child-counted-requires : goal.child-counted-requires
+child-counted-requires t c = child_sumable c.requires c.by_args.ensures c.by_rule.ensures _ _ _ c.in_ok-s.was
+
+pub child-returns : goal.child-returns
+child-returns t c = child_counted c.requires c.by_args.ensures c.by_rule.ensures _ _ _ c.in_ok-s.was c.counted.ensures
+
+-- `by_rule`
+
+pub by_rule-either-requires : goal.by_rule-either-requires
+by_rule-either-requires t c = ready_at Bodyform _ c.in-Bodyform.is refl c.requires
+
+pub by_rule-args_helperform-requires : goal.by_rule-args_helperform-requires
+by_rule-args_helperform-requires t c = (omega arith, ready_at Helperform true c.in-Helperform.is c.if-owning.true c.requires)
+
+pub by_rule-in_helperform-requires : goal.by_rule-in_helperform-requires
+by_rule-in_helperform-requires t c = (omega arith, ready_at Helperform false c.in-Helperform.is c.if-owning.false c.requires)
+
+pub by_rule-args_compileform-requires : goal.by_rule-args_compileform-requires
+by_rule-args_compileform-requires t c = (omega arith, ready_at Compileform true c.in-Compileform.is c.if-owning-2.true c.requires)
+
+pub by_rule-in_compileform-requires : goal.by_rule-in_compileform-requires
+by_rule-in_compileform-requires t c = (omega arith, ready_at Compileform false c.in-Compileform.is c.if-owning-2.false c.requires)
+
+pub by_rule-returns-in-Bodyform : goal.by_rule-returns-in-Bodyform
+by_rule-returns-in-Bodyform t c = walks_at Bodyform _ c.in-Bodyform.is refl c.either.ensures
+
+pub by_rule-returns-then-owning : goal.by_rule-returns-then-owning
+by_rule-returns-then-owning t c = walks_at Helperform true c.in-Helperform.is c.if-owning.true c.args_helperform.ensures
+
+pub by_rule-returns-else-owning : goal.by_rule-returns-else-owning
+by_rule-returns-else-owning t c = walks_at Helperform false c.in-Helperform.is c.if-owning.false c.in_helperform.ensures
+
+pub by_rule-returns-then-owning-2 : goal.by_rule-returns-then-owning-2
+by_rule-returns-then-owning-2 t c = walks_at Compileform true c.in-Compileform.is c.if-owning-2.true c.args_compileform.ensures
+
+pub by_rule-returns-else-owning-2 : goal.by_rule-returns-else-owning-2
+by_rule-returns-else-owning-2 t c = walks_at Compileform false c.in-Compileform.is c.if-owning-2.false c.in_compileform.ensures

@@ -1,5 +1,5 @@
--- The rules on H records and CF meet their contracts: what falls is in Base, what each function needs in a file of its own. Assumes nothing.
-use Prim.Native.Nat.{◌+◌, ◌*◌, ◌-◌}
+-- What falls in the cycle of the rules on H records and CF, 16 times the levels that are left and a phase; and what holds at each helper. Assumes nothing.
+use Prim.Native.Nat.{◌+◌, ◌*◌}
 use Rattle.walk.proofs.HelperTurns.{Turning}
 use Rattle.walk.proofs.forms.+forms.Given as goal
 
@@ -42,8 +42,6 @@ decreases-renewed l = 16 * l.t.depth + 0
 abbrev pub decreases-rest : goal.decreases-rest
 decreases-rest l = 16 * l.t.depth + 7
 
-abbrev pub invariant-helpers-loop-i : goal.invariant-helpers-loop-i
-invariant-helpers-loop-i l = Turning l.way l.count l.sum l.t l.initial.mem l.mem l.at l.to l.held l.counter l.i
-
-abbrev pub decreases-helpers-loop-i : goal.decreases-helpers-loop-i
-decreases-helpers-loop-i l = l.count - l.i
+-- the code's counter is `l.counter-2`; `l.counter` says how many turns are done
+abbrev pub invariant-helpers-loop : goal.invariant-helpers-loop
+invariant-helpers-loop l = Turning l.way l.count l.sum l.t l.initial.mem l.mem l.at l.to l.held l.counter-2 l.counter

@@ -5,12 +5,8 @@ use Rattle.walk.proofs.forms.keep_helper.Goals as goal
 
 pub keep-requires : goal.keep-requires
 keep-requires c =
-    let s = c.before in
-    let p = s.requires.1 in
-    (omega (arith, s.skip-n.ensures.skips p.tree p.good.valid p.there, p.below), omega (arith, helper_room p))
+    let p = c.requires.1 in
+    (omega (arith, c.skip-n.ensures.skips p.tree p.good.valid p.there, p.below), omega (arith, helper_room p))
 
 pub returns : goal.returns
-returns c =
-    let k = c.before.before.before in
-    let s = k.before.before in
-    keeps_helper s.requires.1 s.skip-n.ensures k.keep.ensures
+returns c = keeps_helper c.requires.1 c.skip-n.ensures c.keep.ensures

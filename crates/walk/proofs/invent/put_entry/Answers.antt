@@ -17,17 +17,11 @@ fit {mem} {at} {start} {end} {new} r =
     let l = part_length mem start (end - start) (omega (arith, r.forward, r.behind, r.fits)) in
     omega (arith, entry_length n new, r.fits)
 
-pub overflow_add-name : goal.overflow_add-name
-overflow_add-name c = omega (arith, fit c.requires)
-
 pub put_number-requires : goal.put_number-requires
 put_number-requires c = (omega (arith, fit c.requires), omega (arith, c.requires.short))
 
 pub copy-requires : goal.copy-requires
 copy-requires c = movable_up (omega (arith, c.requires.forward, c.requires.behind)) (omega (arith, fit c.requires))
-
-pub overflow_add-name-2 : goal.overflow_add-name-2
-overflow_add-name-2 c = omega (arith, fit c.requires)
 
 pub put_name-requires : goal.put_name-requires
 put_name-requires c = (c.requires.new_short, omega (arith, fit c.requires, name_field_length c.args.new.now))

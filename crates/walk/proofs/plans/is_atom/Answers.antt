@@ -1,5 +1,4 @@
 -- `crate::plans::is_atom` meets its contract. Assumes nothing.
-use native.Mathlib.Omega.{arith}
 use mathlib.Core.Path.{sym, subst}
 use Rattle.walk.specs.Plans.{IsAtom}
 use Rattle.walk.proofs.ProperLists.{not_atom, the_atom}
@@ -7,15 +6,6 @@ use Rattle.walk.proofs.plans.is_atom.Goals as goal
 
 pub returns-in_default : goal.returns-in_default
 returns-in_default c = not_atom c.in_default.not-Atom c.sexp_view-v.ensures
-
-pub slice_bounds-same-count : goal.slice_bounds-same-count
-slice_bounds-same-count c = let x = rw c.in-Atom.is at c.sexp_view-v.ensures in let p = x.places in omega (arith, p.forward)
-
-pub slice_bounds-same-start : goal.slice_bounds-same-start
-slice_bounds-same-start c = let x = rw c.in-Atom.is at c.sexp_view-v.ensures in let p = x.places in omega (arith, p.forward)
-
-pub slice_bounds-same-end : goal.slice_bounds-same-end
-slice_bounds-same-end c = let x = rw c.in-Atom.is at c.sexp_view-v.ensures in let p = x.places in omega (arith, p.within)
 
 pub returns : goal.returns
 returns c =

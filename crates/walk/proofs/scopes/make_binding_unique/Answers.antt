@@ -1,6 +1,6 @@
 -- `crate::scopes::make_binding_unique` meets its contract. Assumes nothing.
 use native.Mathlib.Omega.{arith}
-use lib.ListN.{length-set}
+use Rattle.std.proofs.lemmas.Result.{err_from_is_err_and}
 use Rattle.walk.proofs.PatternLaws.{pattern_starts, name_ready, complex_here, complex_args, complex_stopped, complex_sums, complex_drawn}
 use Rattle.walk.proofs.scopes.make_binding_unique.Goals as goal
 
@@ -16,25 +16,21 @@ returns-then-mem-eq0 c = c.new_name.ensures c.args.f
 pub bounds-mem-free : goal.bounds-mem-free
 bounds-mem-free c = (pattern_starts c.requires).1
 
-pub slice_bounds-new_args-count : goal.slice_bounds-new_args-count
-slice_bounds-new_args-count c = omega (arith, (pattern_starts c.requires).0, length-set c.args.mem.now c.args.free 1)
-
-pub slice_bounds-new_args-start : goal.slice_bounds-new_args-start
-slice_bounds-new_args-start c = omega (arith, (pattern_starts c.requires).0, length-set c.args.mem.now c.args.free 1)
-
 pub new_args-requires : goal.new_args-requires
 new_args-requires c = complex_args c.requires (complex_here c.requires c.if-mem-eq0.false)
 
 pub overflow_add-result : goal.overflow_add-result
 overflow_add-result c =
-    omega (arith, complex_sums c.requires (complex_here c.requires c.if-mem-eq0.false) c.new_args.ensures _ _ _ _ c.in-Done.is, c.well_formed)
+    omega (arith, complex_sums c.requires (complex_here c.requires c.if-mem-eq0.false) c.new_args.ensures _ _ _ _ c.in_ok-d.was, c.well_formed)
 
-pub overflow_add-result-in-Done : goal.overflow_add-result-in-Done
-overflow_add-result-in-Done c =
-    omega (arith, complex_sums c.requires (complex_here c.requires c.if-mem-eq0.false) c.new_args.ensures _ _ _ _ c.in-Done.is, c.well_formed)
+pub overflow_add-result-2 : goal.overflow_add-result-2
+overflow_add-result-2 c =
+    omega (arith, complex_sums c.requires (complex_here c.requires c.if-mem-eq0.false) c.new_args.ensures _ _ _ _ c.in_ok-d.was, c.well_formed)
 
-pub returns-in-Refused : goal.returns-in-Refused
-returns-in-Refused c = complex_stopped c.requires (complex_here c.requires c.if-mem-eq0.false) c.new_args.ensures _ c.in-Refused.is
+pub returns-in_err-d : goal.returns-in_err-d
+returns-in_err-d c =
+    let e = err_from_is_err_and c.from_residual.result c.from_residual.ensures.1 in
+    rw (e.1, e.2) (complex_stopped c.requires (complex_here c.requires c.if-mem-eq0.false) c.new_args.ensures _ c.in_err-d.was)
 
-pub returns-in-Done : goal.returns-in-Done
-returns-in-Done c = complex_drawn c.requires (complex_here c.requires c.if-mem-eq0.false) c.new_args.ensures _ _ _ _ c.in-Done.is
+pub returns : goal.returns
+returns c = complex_drawn c.requires (complex_here c.requires c.if-mem-eq0.false) c.new_args.ensures _ _ _ _ c.in_ok-d.was

@@ -1,6 +1,6 @@
 -- `crate::substitute::rename_name` meets its contract. Assumes nothing.
 use native.Mathlib.Omega.{arith}
-use mathlib.Core.Path.{◌≡◌, sym, ap, subst, ◌∙◌}
+use mathlib.Core.Path.{◌≡◌, ap, subst, ◌∙◌}
 use Prim.Native.Nat.{◌-◌, ◌≤◌}
 use lib.ListN.{length, take, drop, length-take}
 use lib.Seq.{take-length}
@@ -14,7 +14,7 @@ use Rattle.records.specs.declared.SexpView.TheVariants.{Atom}
 use Rattle.walk.specs.Arena.{Asks, named}
 use Rattle.walk.specs.declared.Task.{Task}
 use Rattle.walk.proofs.Views.{AtomAt, atom}
-use Rattle.walk.proofs.Substitutes.{named_length, map_lent, atom_long, atom_fits}
+use Rattle.walk.proofs.Substitutes.{named_length, atom_long, atom_fits}
 use Rattle.walk.proofs.substitute.rename_name.Goals as goal
 
 -- the SA that stands there
@@ -33,33 +33,21 @@ short {mem} {v} x p = let k = here x p in omega (arith, k.valid, k.name.ends, le
 size : (found out : Bytes) → take (length found) out ≡ take (length found) found → length (take (length found) out) ≡ length found
 size found out e = ap length (e ∙ take-length found)
 
-pub lookup-found-requires : goal.lookup-found-requires
-lookup-found-requires c = let p = c.requires.asks in (p.m, map_lent p.map)
-
 pub put-requires : goal.put-requires
 put-requires c = omega (arith, c.lookup-found.ensures.result_len_bound (short c.requires.sees_sexp c.requires.asks))
 
 pub returns-then-task-size : goal.returns-then-task-size
-returns-then-task-size c = atom_long c.args.task c.lookup-found.ensures.result_value c.requires.sees_sexp c.over_long.ensures c.if-task-size.true
+returns-then-task-size c = atom_long c.args.task c.lookup-found.ensures.result_value c.requires.sees_sexp (cc) c.if-task-size.true
 
-pub slice_bounds-name-end : goal.slice_bounds-name-end
-slice_bounds-name-end c = omega (arith, c.lookup-found.ensures.result_len_bound (short c.requires.sees_sexp c.requires.asks))
+pub put_atom-requires-clause-head_width_le_free : goal.put_atom-requires-clause-head_width_le_free
+put_atom-requires-clause-head_width_le_free c = low c.requires.sees_sexp c.requires.asks
 
-pub slice_bounds-put_atom-end : goal.slice_bounds-put_atom-end
-slice_bounds-put_atom-end c = sym (size c.lookup-found.result.now c.put.new.out c.put.ensures.got)
-
-pub put_atom-requires : goal.put_atom-requires
-put_atom-requires c =
+pub put_atom-requires-clause-name_in_bounds : goal.put_atom-requires-clause-name_in_bounds
+put_atom-requires-clause-name_in_bounds c =
     let found = take (length c.lookup-found.result.now) c.put.new.out in
-    let p = c.requires.asks in
-    let h = low c.requires.sees_sexp p in
-    let fit = p.room in
+    let h = low c.requires.sees_sexp c.requires.asks in
     let z = size c.lookup-found.result.now c.put.new.out c.put.ensures.got in
-    record {
-      name_len_bound = omega (arith, c.lookup-found.ensures.result_len_bound (short c.requires.sees_sexp p), z);
-      head_width_le_free = h;
-      name_in_bounds = omega (arith, named_length c.args.mem.now found (omega (arith, h, fit)), z, c.if-task-size.false);
-    }
+    omega (arith, named_length c.args.mem.now found (omega (arith, h, c.requires.asks.room)), z, c.if-task-size.false, c.requires.asks.room)
 
 pub returns : goal.returns
 returns c =
