@@ -40,6 +40,7 @@ fn fill(file: &mut impl Read, input: &mut [u8]) -> io::Result<usize>
     ensures { IfOk result (λ len. len ≤ length input.old) }
 {
     let mut len = 0;
+    // No range: the place moves by what a read gives.
     while len < input.len() {
         let n = file.read(&mut input[len..])?;
         if n == 0 {

@@ -18,7 +18,7 @@ fn read_as(wanted: Wanted, f: usize, input: &[u8]) -> Refusal
     }
 }
 
-// Reads an input of a kind: 0 a CF, 1 an H record, 2 an assign.
+// Reads an input of a kind: 0 a CF, 1 an H record, 2 an assign. A number, since C calls it.
 fn read_kind(kind: u8, f: usize, input: &[u8]) -> Refusal
     ensures { result ≡ read_call kind f input.now }
 {

@@ -19,7 +19,8 @@ pub const NAME_LIMIT: usize = 255;
 // The largest counter that a call takes.
 pub const MAX_COUNTER: u64 = 4294967295;
 
-// What comparing two names answers: whether they are equal, and how many byte pairs were read.
+// What comparing two names answers: whether they are equal, and how many byte pairs were read. No
+// Option: pairs are read of equal names and of others.
 #[derive(Clone, Copy)]
 pub struct Compared {
     pub equal: bool,
@@ -27,13 +28,13 @@ pub struct Compared {
 }
 
 // A place: the offset of a byte in the input, or a location.
-#[derive(Clone, Copy)]
+#[derive(Clone, Copy, PartialEq, Eq)]
 pub struct Place {
     pub start: u64,
 }
 
 // A refusal: its number and its place. The number is 0 where nothing is refused.
-#[derive(Clone, Copy)]
+#[derive(Clone, Copy, PartialEq, Eq)]
 pub struct Refusal {
     pub number: u32,
     pub place: Place,

@@ -12,6 +12,7 @@ pub fn digit_count(n: u64) -> usize
 {
     let mut left = n;
     let mut count = 1;
+    // No range: a turn divides what is left, and no index is counted.
     while left >= 10 {
         left /= 10;
         count += 1;

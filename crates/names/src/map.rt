@@ -15,6 +15,7 @@ pub fn lookup<'a>(name: &'a [u8], map: &'a [u8]) -> &'a [u8]
     ensures origin { (m : NameMap) → map.now ≡ map_bytes m → Origin m name.entry map.entry result }
 {
     let mut at = 0;
+    // No range: the place moves by the length of an entry.
     while at < map.len() {
         let old = at + NAME_WIDTH;
         let mid = old + number(map, at, NAME_WIDTH);

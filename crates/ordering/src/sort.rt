@@ -16,6 +16,7 @@ pub fn toposort(needs: &[u64], starts: &[usize], row: &mut [u8]) -> Sorted
     rising(row);
     let mut placed = 0;
     let mut rounds = 0;
+    // No range: a turn places as many bindings as are ready.
     while placed < row.len() {
         let round = rounds + 1;
         let done = placed_bits(row, placed);

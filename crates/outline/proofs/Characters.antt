@@ -1,7 +1,8 @@
 -- The characters of a line, one by one. Assumes nothing.
 use mathlib.Core.Path.{◌≡◌, refl, sym, ap, ◌∙◌}
 use mathlib.Core.List.{[], ◌∷◌, ◌++◌, map}
-use mathlib.Core.Option.{Option}
+use Rattle.std.specs.declared.option.Option.{Option}
+use Rattle.std.specs.declared.option.Option.TheVariants.{Some, None}
 use borrow.Author.Tests.{le-leb, lt-leb}
 use native.Mathlib.Omega.{arith}
 use Prim.Native.Nat.{ℕ, zero, suc, ◌+◌, ◌*◌, ◌-◌, ◌≤◌, ◌<◌}
@@ -10,7 +11,6 @@ use lib.Seq.{get_or-append-add, get_or_at, get_or-drop, get_or-take, length-take
 use Rattle.names.specs.Names.{Bytes, ascii}
 use Rattle.records.specs.Records.{mark_width, byte}
 use Rattle.records.specs.declared.NameView.{NameView}
-use Rattle.outline.specs.declared.Label.TheVariants.{Unnamed, Named}
 use Rattle.outline.specs.Page.{spaces, visible, shown, fitted, line_parts}
 use Rattle.outline.specs.PageWork.{LabelWithin, label_name}
 use Rattle.outline.proofs.Lines.{spaces_long, fitted_long}
@@ -47,17 +47,17 @@ get_mapped f (x ∷ xs) (suc i) d e lt = get_mapped f xs i d e (omega arith)
 -- a record without a name
 module _ (s : Bytes) (k : ℕ) where
   -- a dash
-  pub dash_shown : k ≡ 0 → 45 ≡ get_or (shown (label_name s Unnamed)) k 32
+  pub dash_shown : k ≡ 0 → 45 ≡ get_or (shown (label_name s None)) k 32
   unfolding shown label_name ascii
   dash_shown e = rw e refl
 
   -- and nothing more
-  pub dash_ended : (k ≡ 0 → ⊥) → 32 ≡ get_or (shown (label_name s Unnamed)) k 32
+  pub dash_ended : (k ≡ 0 → ⊥) → 32 ≡ get_or (shown (label_name s None)) k 32
   unfolding shown label_name ascii
   dash_ended ne = sym (get_or-eq_default (45 ∷ []) 32 {n = k} (omega arith))
 
 -- one with a name
-module _ (s : Bytes) (v : NameView) (k : ℕ) (w : LabelWithin s (Named v)) where
+module _ (s : Bytes) (v : NameView) (k : ℕ) (w : LabelWithin s (Some v)) where
   -- the bytes of the name
   seen : Bytes
   seen = take (v.end - v.start) (drop v.start s)
@@ -68,14 +68,14 @@ module _ (s : Bytes) (v : NameView) (k : ℕ) (w : LabelWithin s (Named v)) wher
   seen_length = length-take-le (v.end - v.start) (drop v.start s) (omega (arith, length-drop v.start s))
 
   -- a byte of the name
-  pub name_shown : k < v.end - v.start → visible (get_or s (v.start + k) 0) ≡ get_or (shown (label_name s (Named v))) k 32
+  pub name_shown : k < v.end - v.start → visible (get_or s (v.start + k) 0) ≡ get_or (shown (label_name s (Some v))) k 32
   unfolding shown label_name seen
   name_shown lt =
       let there : get_or seen k 0 ≡ get_or s (v.start + k) 0 = get_or-take (v.end - v.start) (drop v.start s) k 0 lt ∙ get_or-drop v.start s k 0 in
       ap visible (sym there) ∙ sym (get_mapped visible seen k 32 0 (omega (arith, seen_length)))
 
   -- and nothing more
-  pub name_ended : v.end - v.start ≤ k → 32 ≡ get_or (shown (label_name s (Named v))) k 32
+  pub name_ended : v.end - v.start ≤ k → 32 ≡ get_or (shown (label_name s (Some v))) k 32
   unfolding shown label_name seen
   name_ended le = sym (get_or-eq_default (map visible seen) 32 {n = k} (omega (arith, length-map seen visible, seen_length)))
 

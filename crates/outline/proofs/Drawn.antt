@@ -1,4 +1,6 @@
 -- A line as it is drawn character by character, and lines one behind the other. Assumes nothing.
+use Rattle.std.specs.declared.option.Option.{Option}
+use Rattle.std.specs.declared.option.Option.TheVariants.{Some, None}
 use mathlib.Core.Path.{◌≡◌, refl, ap, subst, ◌∙◌}
 use mathlib.Core.List.{◌++◌}
 use native.Mathlib.Nat.{zero-add}
@@ -9,8 +11,8 @@ use Rattle.names.specs.Names.{Bytes}
 use Rattle.names.specs.Segments.{At, Filled}
 use Rattle.names.proofs.Frames.{filled_more}
 use Rattle.records.specs.Records.{mark_width, byte}
+use Rattle.records.specs.declared.NameView.{NameView}
 use Rattle.outline.specs.declared.Entry.{Entry}
-use Rattle.outline.specs.declared.Label.{Label}
 use Rattle.outline.specs.Outline.{Outline, node, outline_mark, outline_name, mark_bytes, outline_bytes, OutlineOf}
 use Rattle.outline.specs.Page.{line_width, fitted, line_parts, line_text, line}
 use Rattle.outline.specs.PageWork.{label_name, Labels, LineWritten}
@@ -18,15 +20,15 @@ use Rattle.outline.proofs.Characters.{ended_length, ended_get, ended_last}
 use Rattle.outline.proofs.NamePlaces.{mark_there}
 
 -- what stands on the line of the record that s starts with
-abbrev pub drawn_text : Bytes → ℕ → Label → Bytes
+abbrev pub drawn_text : Bytes → ℕ → Option NameView → Bytes
 drawn_text s depth name = line_parts depth (take mark_width s) (label_name s name)
 
 -- at its width, and 0A after it
-abbrev pub drawn_line : Bytes → ℕ → Label → Bytes
+abbrev pub drawn_line : Bytes → ℕ → Option NameView → Bytes
 drawn_line s depth name = fitted line_width (drawn_text s depth name) ++ byte 10
 
 -- one character more, and the last
-module _ (s : Bytes) (depth : ℕ) (name : Label) {xs ys : Bytes} where
+module _ (s : Bytes) (depth : ℕ) (name : Option NameView) {xs ys : Bytes} where
   -- a byte more
   front_more : {i : ℕ} (v : ℕ) → Filled xs ys 0 (drawn_line s depth name) i → line_width + 1 ≤ length xs → i < line_width + 1 → v ≡ get_or (drawn_line s depth name) i 0
       → Filled xs (set ys i v) 0 (drawn_line s depth name) (i + 1)
@@ -43,7 +45,7 @@ module _ (s : Bytes) (depth : ℕ) (name : Label) {xs ys : Bytes} where
   drawn_whole f room = front_more 10 f room (omega arith) (ended_last line_width (drawn_text s depth name))
 
 -- it is the line of that record
-line_drawn : {s : Bytes} {name : Label} (e : Entry) (x : Outline) → OutlineOf x → At s 0 (outline_bytes x) → Labels s name → drawn_line s e.around.depth name ≡ line (e, x)
+line_drawn : {s : Bytes} {name : Option NameView} (e : Entry) (x : Outline) → OutlineOf x → At s 0 (outline_bytes x) → Labels s name → drawn_line s e.around.depth name ≡ line (e, x)
 unfolding line line_text outline_mark outline_name
 line_drawn {s} {name} e x o a l =
     ap (λ (t : Bytes). fitted line_width t ++ byte 10) (rw (mark_there x o a, l.says x o a) (as_text x))
@@ -52,7 +54,7 @@ line_drawn {s} {name} e x o a l =
     as_text (node m n ps) = refl
 
 -- so its line is written
-pub line_filled : {s : Bytes} {depth : ℕ} {name : Label} {xs ys : Bytes} → Labels s name → Filled xs ys 0 (drawn_line s depth name) (line_width + 1) → LineWritten s depth xs ys
+pub line_filled : {s : Bytes} {depth : ℕ} {name : Option NameView} {xs ys : Bytes} → Labels s name → Filled xs ys 0 (drawn_line s depth name) (line_width + 1) → LineWritten s depth xs ys
 line_filled {s} {depth} {name} {xs} {ys} l f = record { frame = f.frame; filled = written_line }
   where
     written_line : (e : Entry) (x : Outline) → e.around.depth ≡ depth → OutlineOf x → At s 0 (outline_bytes x) → Filled xs ys 0 (line (e, x)) (line_width + 1)

@@ -1,7 +1,8 @@
 -- The mark and the name of a record that stands at the start of a list of bytes. Assumes nothing.
 use mathlib.Core.Path.{◌≡◌, refl, sym, ap, ◌∙◌}
 use mathlib.Core.List.{◌++◌}
-use mathlib.Core.Option.{Option, none, some}
+use Rattle.std.specs.declared.option.Option.{Option}
+use Rattle.std.specs.declared.option.Option.TheVariants.{Some, None}
 use native.Mathlib.Omega.{arith}
 use Prim.Native.Nat.{ℕ, ◌+◌, ◌-◌, ◌≤◌, ◌<◌}
 use lib.ListN.{length, take, drop, get_or}
@@ -13,8 +14,6 @@ use Rattle.records.specs.Valid.{ValidLoc, ValidName, SexpFields, BindingFields, 
 use Rattle.records.specs.Views.{SeesName}
 use Rattle.records.specs.declared.NameView.{NameView}
 use Rattle.records.proofs.Places.{byte_there}
-use Rattle.outline.specs.declared.Label.{Label}
-use Rattle.outline.specs.declared.Label.TheVariants.{Unnamed, Named}
 use Rattle.outline.specs.declared.Mark.{Mark}
 use Rattle.outline.specs.declared.Mark.TheVariants as marks
 use Rattle.outline.specs.declared.NamePlace.{NamePlace}
@@ -26,17 +25,17 @@ use Rattle.outline.proofs.Listed.{of_shaped, shaped_mark}
 use Rattle.outline.proofs.KnownMarks.{mark_known}
 
 -- there is no name behind the end
-pub no_name_past : {s : Bytes} {at : ℕ} → length s < at → LabelsName s at Unnamed
+pub no_name_past : {s : Bytes} {at : ℕ} → length s < at → LabelsName s at None
 no_name_past lt = record { within = tt; says = λ n v a. absurd (omega (arith, a.fits)) }
 
 -- the name is what the view has
-pub name_seen : {s : Bytes} {at : ℕ} {v : NameView} → SeesName s at v → LabelsName s at (Named v)
+pub name_seen : {s : Bytes} {at : ℕ} {v : NameView} → SeesName s at v → LabelsName s at (Some v)
 unfolding label_name
 name_seen {s} {at} {v} k = record {
   within = (k.forward, k.within);
   says = λ n valid a.
       let there = k.sees n valid a in
-      ap some (at_is v.start (v.end - v.start) refl (omega (arith, there.ends)) there.bytes);
+      ap Some (at_is v.start (v.end - v.start) refl (omega (arith, there.ends)) there.bytes);
 }
 
 -- the record starts with its mark
@@ -59,10 +58,10 @@ module _ {s : Bytes} (x : Outline) (o : OutlineOf x) (a : At s 0 (outline_bytes 
 
 -- the place of a name, and the name that stands there, if a record has one
 data NameStands (s : Bytes) : NamePlace → Option Bytes → Type 0 where
-  no_place : NameStands s places.Nowhere none
-  a_place : {p : ℕ} {n : Bytes} → ValidName n → At s p (name_field n) → NameStands s (places.At p) (some n)
-  name_place_there : {p : ℕ} {n : Bytes} → get_or s p 0 ≡ 0 → ValidName n → At s (p + 1) (name_field n) → NameStands s (places.Pattern p) (some n)
-  record_place_there : {p : ℕ} → get_or s p 0 ≡ 1 → NameStands s (places.Pattern p) none
+  no_place : NameStands s places.Nowhere None
+  a_place : {p : ℕ} {n : Bytes} → ValidName n → At s p (name_field n) → NameStands s (places.At p) (Some n)
+  name_place_there : {p : ℕ} {n : Bytes} → get_or s p 0 ≡ 0 → ValidName n → At s (p + 1) (name_field n) → NameStands s (places.Pattern p) (Some n)
+  record_place_there : {p : ℕ} → get_or s p 0 ≡ 1 → NameStands s (places.Pattern p) None
 
 -- what follows a mark and an L, and a byte behind them
 module _ {s : Bytes} (m : Mark) (l : Bytes) (rest : Bytes) where
@@ -103,20 +102,20 @@ name_stands (of_helper (HR l n r) v) a = a_place v.1 (at_left (name_field n) _ (
 name_stands (of_form (CF l r d hs b) v) a = no_place
 
 -- what each place says of the name
-nothing_there : {s : Bytes} {n : Option Bytes} → NameStands s places.Nowhere n → none ≡ n
+nothing_there : {s : Bytes} {n : Option Bytes} → NameStands s places.Nowhere n → None ≡ n
 nothing_there no_place = refl
 
 -- at a place
-named_there : {s : Bytes} {p : ℕ} {r : Label} {n : Option Bytes} → LabelsName s p r → NameStands s (places.At p) n → label_name s r ≡ n
+named_there : {s : Bytes} {p : ℕ} {r : Option NameView} {n : Option Bytes} → LabelsName s p r → NameStands s (places.At p) n → label_name s r ≡ n
 named_there l (a_place {n = n} v a) = l.says n v a
 
 -- a pattern that is a record
-record_there : {s : Bytes} {p : ℕ} {n : Option Bytes} → (get_or s p 0 ≡ 0 → ⊥) → NameStands s (places.Pattern p) n → none ≡ n
+record_there : {s : Bytes} {p : ℕ} {n : Option Bytes} → (get_or s p 0 ≡ 0 → ⊥) → NameStands s (places.Pattern p) n → None ≡ n
 record_there ne (name_place_there z v a) = absurd (ne z)
 record_there ne (record_place_there o) = refl
 
 -- a pattern that is a name
-pattern_there : {s : Bytes} {p : ℕ} {r : Label} {n : Option Bytes} → get_or s p 0 ≡ 0 → LabelsName s (p + 1) r → NameStands s (places.Pattern p) n → label_name s r ≡ n
+pattern_there : {s : Bytes} {p : ℕ} {r : Option NameView} {n : Option Bytes} → get_or s p 0 ≡ 0 → LabelsName s (p + 1) r → NameStands s (places.Pattern p) n → label_name s r ≡ n
 pattern_there z l (name_place_there {n = n} y v a) = l.says n v a
 pattern_there z l (record_place_there o) = absurd (omega arith)
 
@@ -127,19 +126,19 @@ module _ {s : Bytes} (m : Mark) (is : m ≡ first_mark (take mark_width (drop 0 
   place_says e x o a = rw (e, is, mark_read x o a) (name_stands o a)
 
   -- no place, no name
-  pub label_nowhere : places.Nowhere ≡ name_place m → Labels s Unnamed
+  pub label_nowhere : places.Nowhere ≡ name_place m → Labels s None
   unfolding label_name
   label_nowhere e = record { within = tt; says = λ x o a. nothing_there (place_says e x o a) }
 
   -- the name at the place
-  pub label_at : {p : ℕ} {r : Label} → places.At p ≡ name_place m → LabelsName s p r → Labels s r
+  pub label_at : {p : ℕ} {r : Option NameView} → places.At p ≡ name_place m → LabelsName s p r → Labels s r
   label_at e l = record { within = l.within; says = λ x o a. named_there l (place_says e x o a) }
 
   -- a record as pattern, no name
-  pub label_complex : {p : ℕ} → places.Pattern p ≡ name_place m → (get_or s p 0 ≡ 0 → ⊥) → Labels s Unnamed
+  pub label_complex : {p : ℕ} → places.Pattern p ≡ name_place m → (get_or s p 0 ≡ 0 → ⊥) → Labels s None
   unfolding label_name
   label_complex e ne = record { within = tt; says = λ x o a. record_there ne (place_says e x o a) }
 
   -- the name behind the byte that says that the pattern is one
-  pub label_pattern : {p : ℕ} {r : Label} → places.Pattern p ≡ name_place m → get_or s p 0 ≡ 0 → LabelsName s (p + 1) r → Labels s r
+  pub label_pattern : {p : ℕ} {r : Option NameView} → places.Pattern p ≡ name_place m → get_or s p 0 ≡ 0 → LabelsName s (p + 1) r → Labels s r
   label_pattern e z l = record { within = l.within; says = λ x o a. pattern_there z l (place_says e x o a) }

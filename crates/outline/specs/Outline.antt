@@ -2,7 +2,8 @@
 -- docs/FORMAT.md, 'Records'.
 -- Assumes nothing.
 use Rattle.std.specs.Prelude.{[], ◌++◌, ℕ, suc, ◌+◌}
-use Rattle.std.proofs.Math.Option.{Option, none, some}
+use Rattle.std.specs.declared.option.Option.{Option}
+use Rattle.std.specs.declared.option.Option.TheVariants.{Some, None}
 use Rattle.names.specs.Names.{Bytes, ascii, name_field}
 use Rattle.records.specs.declared.Family.{Family}
 use Rattle.records.specs.declared.Family.TheVariants.{Body as a_Body, Binding as a_binding, Helper as a_helper, Form as a_form}
@@ -88,11 +89,11 @@ record_alone x = record_then x no_more
 
 -- an S record; a name is the first name field of an SQ and of an SA
 unfoldable pub sexp_outline : Sexp → Outline
-sexp_outline (SN l) = node marks.Nil none (bytes_then l no_more)
-sexp_outline (SC l h t) = node marks.Pair none (bytes_then l (record_then (sexp_outline h) (record_alone (sexp_outline t))))
-sexp_outline (SI l v) = node marks.Integer none (bytes_then l (bytes_then (integer_field v) no_more))
-sexp_outline (SQ l q n) = node marks.Text (some n) (bytes_then l (bytes_then (byte q) (bytes_then (name_field n) no_more)))
-sexp_outline (SA l n) = node marks.Atom (some n) (bytes_then l (bytes_then (name_field n) no_more))
+sexp_outline (SN l) = node marks.Nil None (bytes_then l no_more)
+sexp_outline (SC l h t) = node marks.Pair None (bytes_then l (record_then (sexp_outline h) (record_alone (sexp_outline t))))
+sexp_outline (SI l v) = node marks.Integer None (bytes_then l (bytes_then (integer_field v) no_more))
+sexp_outline (SQ l q n) = node marks.Text (Some n) (bytes_then l (bytes_then (byte q) (bytes_then (name_field n) no_more)))
+sexp_outline (SA l n) = node marks.Atom (Some n) (bytes_then l (bytes_then (name_field n) no_more))
 
 -- a pattern
 unfoldable pub pattern_pieces : Pattern → Pieces
@@ -101,20 +102,20 @@ pattern_pieces (Complex s) = bytes_then (byte 1) (record_alone (sexp_outline s))
 
 -- its name: that of a Complex pattern is no name field of the BB
 unfoldable pub own_name : Pattern → Option Bytes
-own_name (Name n) = some n
-own_name (Complex s) = none
+own_name (Name n) = Some n
+own_name (Complex s) = None
 
 unfoldable mutual
   -- a B record
   pub body_outline : Body → Outline
   body_outline (BL k l w h bs b) =
-      node marks.Let none (bytes_then (kind_field k) (bytes_then l (bytes_then w (bytes_then h (bytes_then (byte (bindings_count bs)) (bindings_pieces bs ++ᵖ record_alone (body_outline b)))))))
-  body_outline (BQ s) = node marks.Quoted none (record_alone (sexp_outline s))
-  body_outline (BV s) = node marks.Value none (record_alone (sexp_outline s))
-  body_outline (BC l bs t) = node marks.Call none (bytes_then l (bytes_then (byte (bodies_count bs)) (bodies_pieces bs ++ᵖ tail_pieces t)))
-  body_outline (BM l f) = node marks.Mod none (bytes_then l (record_alone (form_outline f)))
+      node marks.Let None (bytes_then (kind_field k) (bytes_then l (bytes_then w (bytes_then h (bytes_then (byte (bindings_count bs)) (bindings_pieces bs ++ᵖ record_alone (body_outline b)))))))
+  body_outline (BQ s) = node marks.Quoted None (record_alone (sexp_outline s))
+  body_outline (BV s) = node marks.Value None (record_alone (sexp_outline s))
+  body_outline (BC l bs t) = node marks.Call None (bytes_then l (bytes_then (byte (bodies_count bs)) (bodies_pieces bs ++ᵖ tail_pieces t)))
+  body_outline (BM l f) = node marks.Mod None (bytes_then l (record_alone (form_outline f)))
   body_outline (BF l w ca c a b) =
-      node marks.Lambda none (bytes_then l (bytes_then w (record_then (sexp_outline ca) (record_then (body_outline c) (record_then (sexp_outline a) (record_alone (body_outline b)))))))
+      node marks.Lambda None (bytes_then l (bytes_then w (record_then (sexp_outline ca) (record_then (body_outline c) (record_then (sexp_outline a) (record_alone (body_outline b)))))))
 
   -- the elements of a call
   pub bodies_pieces : Bodies → Pieces
@@ -137,13 +138,13 @@ unfoldable mutual
 
   -- an H record: each has a name
   pub helper_outline : Helper → Outline
-  helper_outline (HC l n r b) = node marks.Constant (some n) (bytes_then l (bytes_then (name_field n) (bytes_then r (record_alone (body_outline b)))))
+  helper_outline (HC l n r b) = node marks.Constant (Some n) (bytes_then l (bytes_then (name_field n) (bytes_then r (record_alone (body_outline b)))))
   helper_outline (HM l n r a f) =
-      node marks.Macro (some n) (bytes_then l (bytes_then (name_field n) (bytes_then r (record_then (sexp_outline a) (record_alone (form_outline f))))))
+      node marks.Macro (Some n) (bytes_then l (bytes_then (name_field n) (bytes_then r (record_then (sexp_outline a) (record_alone (form_outline f))))))
   helper_outline (HD l i n r a b) =
-      node marks.Function (some n) (bytes_then l (bytes_then (byte i) (bytes_then (name_field n) (bytes_then r (record_then (sexp_outline a) (record_alone (body_outline b)))))))
-  helper_outline (HN l n r hs) = node marks.Namespace (some n) (bytes_then l (bytes_then (name_field n) (bytes_then r (bytes_then (byte (helpers_count hs)) (helpers_pieces hs)))))
-  helper_outline (HR l n r) = node marks.Reference (some n) (bytes_then l (bytes_then (name_field n) (bytes_then r no_more)))
+      node marks.Function (Some n) (bytes_then l (bytes_then (byte i) (bytes_then (name_field n) (bytes_then r (record_then (sexp_outline a) (record_alone (body_outline b)))))))
+  helper_outline (HN l n r hs) = node marks.Namespace (Some n) (bytes_then l (bytes_then (name_field n) (bytes_then r (bytes_then (byte (helpers_count hs)) (helpers_pieces hs)))))
+  helper_outline (HR l n r) = node marks.Reference (Some n) (bytes_then l (bytes_then (name_field n) (bytes_then r no_more)))
 
   -- helpers
   pub helpers_pieces : Helpers → Pieces
@@ -153,7 +154,7 @@ unfoldable mutual
   -- a CF
   pub form_outline : Form → Outline
   form_outline (CF l r a hs b) =
-      node marks.Form none (bytes_then l (bytes_then r (record_then (sexp_outline a) (bytes_then (byte (helpers_count hs)) (helpers_pieces hs ++ᵖ record_alone (body_outline b))))))
+      node marks.Form None (bytes_then l (bytes_then r (record_then (sexp_outline a) (bytes_then (byte (helpers_count hs)) (helpers_pieces hs ++ᵖ record_alone (body_outline b))))))
 
 -- a record of each family
 abbrev pub family_outline : (f : Family) → (family_part f).0 → Outline

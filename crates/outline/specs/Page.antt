@@ -1,7 +1,8 @@
 -- The call Page: a form on lines of one width, one record on each. docs/FORMAT.md, 'Page'.
 -- Assumes nothing.
 use Rattle.std.specs.Prelude.{true, false, ◌&&◌, cond, List, [], ◌∷◌, ◌++◌, map, ℕ, zero, suc, ◌+◌, ◌*◌, leb, length, take}
-use Rattle.std.proofs.Math.Option.{Option, none, some}
+use Rattle.std.specs.declared.option.Option.{Option}
+use Rattle.std.specs.declared.option.Option.TheVariants.{Some, None}
 use Rattle.names.specs.CallAnswer.{CallResult, accepted_answer, refused_answer, written}
 use Rattle.names.specs.Names.{Bytes, ascii}
 use Rattle.names.specs.Refusals.{placeless}
@@ -29,8 +30,8 @@ visible b = cond (leb 33 b && leb b 126) b 46
 
 -- a name as it prints, or - where there is none
 unfoldable pub shown : Option Bytes → Bytes
-shown none = ascii "-"
-shown (some n) = map visible n
+shown None = ascii "-"
+shown (Some n) = map visible n
 
 -- cut at the width, or padded with spaces to it
 unfoldable pub fitted : ℕ → Bytes → Bytes

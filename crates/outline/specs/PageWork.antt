@@ -1,16 +1,16 @@
 -- What the functions of the call Page ask and say.
 -- Assumes nothing.
 use Rattle.std.specs.Prelude.{◌≡◌, ℕ, ◌+◌, ◌*◌, ◌-◌, ◌≤◌, length, take, drop}
-use Rattle.std.proofs.Math.Option.{Option, none, some}
+use Rattle.std.specs.declared.option.Option.{Option}
+use Rattle.std.specs.declared.option.Option.TheVariants.{Some, None}
 use Rattle.names.specs.CallAnswer.{written}
 use Rattle.names.specs.Names.{Bytes, name_field}
 use Rattle.names.specs.Segments.{At, SameOutside, Filled}
 use Rattle.records.specs.Limits.{most_longest}
 use Rattle.records.specs.Records.{mark_width, loc_width, head_width, Form, form_bytes}
 use Rattle.records.specs.Valid.{ValidName, FormFields}
+use Rattle.records.specs.declared.NameView.{NameView}
 use Rattle.outline.specs.declared.Entry.{Entry}
-use Rattle.outline.specs.declared.Label.{Label}
-use Rattle.outline.specs.declared.Label.TheVariants.{Unnamed, Named}
 use Rattle.outline.specs.declared.Mark.{Mark}
 use Rattle.outline.specs.declared.Mark.TheVariants as marks
 use Rattle.outline.specs.declared.NamePlace.{NamePlace}
@@ -48,22 +48,22 @@ PlaceLow (places.At p) = p ≤ head_width + loc_width
 PlaceLow (places.Pattern p) = p ≤ head_width + loc_width
 
 -- a name stands within s
-abbrev pub LabelWithin : Bytes → Label → Type 0
-LabelWithin s Unnamed = Unit {0}
-LabelWithin s (Named v) = (v.start ≤ v.end) × (v.end ≤ length s)
+abbrev pub LabelWithin : Bytes → Option NameView → Type 0
+LabelWithin s None = Unit {0}
+LabelWithin s (Some v) = (v.start ≤ v.end) × (v.end ≤ length s)
 
 -- the name that a label says
-unfoldable pub label_name : Bytes → Label → Option Bytes
-label_name s Unnamed = none
-label_name s (Named v) = some (take (v.end - v.start) (drop v.start s))
+unfoldable pub label_name : Bytes → Option NameView → Option Bytes
+label_name s None = None
+label_name s (Some v) = Some (take (v.end - v.start) (drop v.start s))
 
 -- r says the name whose field stands at a place
-pub record LabelsName (s : Bytes) (at : ℕ) (r : Label) : Type 0 where
+pub record LabelsName (s : Bytes) (at : ℕ) (r : Option NameView) : Type 0 where
   pub within : LabelWithin s r
-  pub says : (n : Bytes) → ValidName n → At s at (name_field n) → label_name s r ≡ some n
+  pub says : (n : Bytes) → ValidName n → At s at (name_field n) → label_name s r ≡ Some n
 
 -- r says the name of the record that s starts with
-pub record Labels (s : Bytes) (r : Label) : Type 0 where
+pub record Labels (s : Bytes) (r : Option NameView) : Type 0 where
   pub within : LabelWithin s r
   pub says : (x : Outline) → OutlineOf x → At s 0 (outline_bytes x) → label_name s r ≡ outline_name x
 

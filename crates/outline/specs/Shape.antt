@@ -1,8 +1,7 @@
 -- The mark of a record, the fields that follow it, and the outlines that are shaped so; what the functions that list records ask and say.
 -- Assumes nothing.
 use Rattle.std.specs.Prelude.{◌≡◌, true, false, List, [], ◌∷◌, ℕ, ◌+◌, ◌*◌, ◌^◌, ◌≤◌, ◌<◌, length, take}
-use Rattle.std.proofs.Math.Option.{Option}
-use Rattle.std.specs.declared.option.Option.{Option as Found}
+use Rattle.std.specs.declared.option.Option.{Option}
 use Rattle.std.specs.declared.option.Option.TheVariants.{Some, None}
 use Rattle.names.specs.Names.{Bytes, ascii, same, name_field}
 use Rattle.names.specs.Segments.{At}
@@ -31,7 +30,7 @@ unfoldable pub binding_or_form : Bytes → Mark
 binding_or_form x = elim (same x (ascii "BB")) [ true ↦ marks.Binding | false ↦ elim (same x (ascii "CF")) [ true ↦ marks.Form | false ↦ marks.Unknown ] ]
 
 -- the mark of an H record, or else m
-abbrev pub of_helper : Mark → Found HelperMark → Mark
+abbrev pub of_helper : Mark → Option HelperMark → Mark
 of_helper m (Some helper_marks_of.Constant) = marks.Constant
 of_helper m (Some helper_marks_of.Macro) = marks.Macro
 of_helper m (Some helper_marks_of.Function) = marks.Function
@@ -44,7 +43,7 @@ abbrev pub helper_or_other : Bytes → Mark
 helper_or_other x = of_helper (binding_or_form x) (helper_mark_at (mark_index x helper_marks))
 
 -- of a B record
-abbrev pub of_body : Mark → Found BodyMark → Mark
+abbrev pub of_body : Mark → Option BodyMark → Mark
 of_body m (Some body_marks_of.Let) = marks.Let
 of_body m (Some body_marks_of.Quoted) = marks.Quoted
 of_body m (Some body_marks_of.Value) = marks.Value
@@ -58,7 +57,7 @@ abbrev pub body_or_other : Bytes → Mark
 body_or_other x = of_body (helper_or_other x) (body_mark_at (mark_index x body_marks))
 
 -- of an S record
-abbrev pub of_sexp : Mark → Found SexpMark → Mark
+abbrev pub of_sexp : Mark → Option SexpMark → Mark
 of_sexp m (Some sexp_marks_of.Nil) = marks.Nil
 of_sexp m (Some sexp_marks_of.Pair) = marks.Pair
 of_sexp m (Some sexp_marks_of.Integer) = marks.Integer

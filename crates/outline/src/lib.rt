@@ -93,10 +93,3 @@ pub enum NamePlace {
     At(usize),
     Pattern(usize),
 }
-
-// The name of a record, if it has one.
-#[derive(Clone, Copy)]
-pub enum Label {
-    Unnamed,
-    Named(records::NameView),
-}

@@ -8,13 +8,13 @@ ghost use Rattle.outline.specs.PageWork.{name_place, PlaceLow, LabelWithin, labe
 use crate::entries::entry_at;
 use crate::index::index_input;
 use crate::marks::first_mark;
-use crate::{LINE_WIDTH, Label, Mark, NamePlace};
+use crate::{LINE_WIDTH, Mark, NamePlace};
 use names::Answer;
 use names::call::{accepted, refused};
 use names::refusals::placeless;
 use records::input::read_input;
 use records::past::{byte_at, name_view};
-use records::{HEAD_WIDTH, LOC_WIDTH, MARK_WIDTH, Wanted};
+use records::{HEAD_WIDTH, LOC_WIDTH, MARK_WIDTH, NameView, Wanted};
 
 // Where the first name field of a record stands that is its own.
 fn name_place(mark: Mark) -> NamePlace
@@ -32,25 +32,25 @@ fn name_place(mark: Mark) -> NamePlace
 }
 
 // The name at a place.
-fn named(s: &[u8], at: usize) -> Label
+fn named(s: &[u8], at: usize) -> Option<NameView>
     ensures { LabelsName s.now at result }
 {
     if s.len() < at {
-        return Label::Unnamed;
+        return None;
     }
-    Label::Named(name_view(s, at))
+    Some(name_view(s, at))
 }
 
 // The name of the record that s starts with.
-fn label(s: &[u8]) -> Label
+fn label(s: &[u8]) -> Option<NameView>
     ensures { Labels s.now result }
 {
     match name_place(first_mark(s)) {
-        NamePlace::Nowhere => Label::Unnamed,
+        NamePlace::Nowhere => None,
         NamePlace::At(at) => named(s, at),
         NamePlace::Pattern(at) => {
             if byte_at(s, at) != 0 {
-                return Label::Unnamed;
+                return None;
             }
             named(s, at + 1)
         }
@@ -71,18 +71,18 @@ pub fn visible(b: u8) -> u8
 }
 
 // The character at a place of a name as it prints, and behind it a space.
-fn shown_at(s: &[u8], name: Label, k: usize) -> u8
+fn shown_at(s: &[u8], name: Option<NameView>, k: usize) -> u8
     requires { LabelWithin s.now name }
     ensures { result ≡ get_or (shown (label_name s.now name)) k 32 }
 {
     match name {
-        Label::Unnamed => {
+        None => {
             if k == 0 {
                 return b'-';
             }
             b' '
         }
-        Label::Named(v) => {
+        Some(v) => {
             let start = v.start;
             if k < v.end - start {
                 return visible(s[start + k]);
@@ -93,7 +93,7 @@ fn shown_at(s: &[u8], name: Label, k: usize) -> u8
 }
 
 // The character at a place of the line of the record that s starts with.
-fn character(s: &[u8], depth: usize, name: Label, i: usize) -> u8
+fn character(s: &[u8], depth: usize, name: Option<NameView>, i: usize) -> u8
     requires { LabelWithin s.now name × (mark_width ≤ length s.now) × (depth ≤ most_longest) }
     ensures { result ≡ get_or (line_parts depth (take mark_width s.now) (label_name s.now name)) i 32 }
 {

@@ -2,35 +2,50 @@
 ghost use Rattle.std.specs.Prelude.{◌≡◌, ◌≤◌, length};
 ghost use Rattle.names.specs.CallAnswer.{written};
 ghost use Rattle.replays.specs.Judging.{Decides, filling};
-ghost use Rattle.replay_calls.specs.CallCases.{answer_to, due_answer, ResultIn, AgreesIn};
+ghost use Rattle.replay_calls.specs.CallCases.{answer_to, call_of, due_answer, ResultIn, AgreesIn};
 
-use names::bytes::is_word;
 use names::{Answer, Refusal};
-use replays::{fill, same_refusal, untouched};
+use replays::{fill, untouched};
 use walk::call::{children_only, single_helper, whole_form};
 
-// How many calls there are: Whole form is 0, Children only 1, Single helper 2.
-pub const CALLS: u8 = 3;
+// The calls.
+#[derive(Clone, Copy)]
+pub enum Call {
+    WholeForm,
+    ChildrenOnly,
+    SingleHelper,
+}
 
 // What a case gives beside its input, and the refusal and the counter that it must get.
 #[derive(Clone, Copy)]
 pub struct Case {
-    pub call: u8,
+    pub call: Call,
     pub f: usize,
     pub counter: u64,
     pub refusal: Refusal,
     pub after: u64,
 }
 
+// The call of a number, where one has it.
+pub fn call_of(number: u8) -> Option<Call>
+    ensures { result ≡ call_of number }
+{
+    match number {
+        0 => Some(Call::WholeForm),
+        1 => Some(Call::ChildrenOnly),
+        2 => Some(Call::SingleHelper),
+        _ => None,
+    }
+}
+
 // What the call of a case answers.
 fn answer(c: Case, work: &mut [u8], input: &[u8], res: &mut [u8]) -> Answer
     ensures { (result, res.new) ≡ answer_to c work.old input.now res.old }
 {
-    let call = c.call;
-    match call {
-        0 => whole_form(c.f, work, c.counter, input, res),
-        1 => children_only(c.f, work, c.counter, input, res),
-        _ => single_helper(c.f, work, c.counter, input, res),
+    match c.call {
+        Call::WholeForm => whole_form(c.f, work, c.counter, input, res),
+        Call::ChildrenOnly => children_only(c.f, work, c.counter, input, res),
+        Call::SingleHelper => single_helper(c.f, work, c.counter, input, res),
     }
 }
 
@@ -38,30 +53,17 @@ fn answer(c: Case, work: &mut [u8], input: &[u8], res: &mut [u8]) -> Answer
 fn same_answer(c: Case, a: Answer, len: usize) -> bool
     ensures { Decides result (a ≡ due_answer c len) }
 {
-    if !same_refusal(a.refusal, c.refusal) {
-        return false;
-    }
-    if a.counter != c.after {
-        return false;
-    }
-    if a.rounds != 0 {
-        return false;
-    }
-    a.len == len
+    a.refusal == c.refusal && a.counter == c.after && a.rounds == 0 && a.len == len
 }
 
 // Whether the wanted bytes stand at the front of memory, and behind them what it was filled with.
 fn holds(mem: &[u8], wanted: &[u8]) -> bool
     ensures { Decides result (mem.now ≡ written wanted.now (filling (length mem.now))) }
 {
-    let len = wanted.len();
-    if len > mem.len() {
-        return false;
+    match mem.strip_prefix(wanted) {
+        Some(rest) => untouched(rest),
+        None => false,
     }
-    if !is_word(mem, 0, wanted) {
-        return false;
-    }
-    untouched(&mem[len..])
 }
 
 // Whether an answer and the first bytes of memory, the result buffer, are those of the case, and no
@@ -70,13 +72,7 @@ fn same_result(c: Case, a: Answer, mem: &[u8], buffer: usize, wanted: &[u8]) -> 
     requires { buffer ≤ length mem.now }
     ensures { Decides result (ResultIn c a mem.now buffer wanted.now) }
 {
-    if !same_answer(c, a, wanted.len()) {
-        return false;
-    }
-    if !holds(&mem[..buffer], wanted) {
-        return false;
-    }
-    untouched(&mem[buffer..])
+    same_answer(c, a, wanted.len()) && holds(&mem[..buffer], wanted) && untouched(&mem[buffer..])
 }
 
 // Whether a case is answered as it must be, with the first bytes of memory as the result buffer.

@@ -12,11 +12,11 @@ ghost use Rattle.std.specs.Prelude.{◌≡◌, ◌≤◌, length};
 ghost use Rattle.replays.specs.declared.Verdict.TheVariants.{Agrees};
 ghost use Rattle.replay_calls.specs.CallCases.{case_from, work_of, HeadAgrees};
 
-use calls::{CALLS, Case, agrees};
+use calls::{Call, Case, agrees, call_of};
 use names::bytes::number;
 use names::refusals::{place_at, refusing};
 use records::{MOST_LONGEST, WORK_FACTOR};
-use replays::{Verdict, read_full, reads};
+use replays::{Verdict, read_part, replay};
 use std::io;
 use std::io::Read;
 
@@ -38,12 +38,12 @@ const MEMORY: usize = LONGEST + BEHIND;
 // Work memory for every F, and for some that are too long.
 const WORK: usize = WORK_FACTOR * (MOST_LONGEST + 16);
 
-// What a case gives and must get.
-fn case_of(head: &[u8; HEAD]) -> Case
-    ensures { result ≡ case_from head.now }
+// What a case of a call gives and must get.
+fn case_of(call: Call, head: &[u8; HEAD]) -> Case
+    ensures { result ≡ case_from call head.now }
 {
     Case {
-        call: number(head, 0, 1) as u8,
+        call,
         f: number(head, 2, 4),
         counter: number(head, 10, 8) as u64,
         refusal: refusing(
@@ -59,13 +59,12 @@ fn judged(head: &[u8; HEAD], work: &mut [u8], mem: &mut [u8], parts: &[u8], res:
     requires { res ≤ length parts.now }
     ensures { result ≡ Agrees → HeadAgrees head.now (length work.old) parts.now res }
 {
-    let c = case_of(head);
-    if c.call >= CALLS {
+    let Some(call) = call_of(number(head, 0, 1) as u8) else {
         return Verdict::Broken;
-    }
+    };
     let buffer = number(head, 34, 2);
     let input = &parts[..res];
-    replays::judged(agrees(c, work, input, &parts[res..], mem, buffer))
+    replays::judged(agrees(case_of(call, head), work, input, &parts[res..], mem, buffer))
 }
 
 // Lends as much memory as a case asks for, and has the call answer it.
@@ -93,78 +92,17 @@ fn rest(
     buf: &mut [u8],
 ) -> io::Result<Verdict> {
     let result = number(head, 36, 2);
-    let end = result + number(head, 38, 2);
-    if end > buf.len() {
+    let Some(parts) = read_part(stdin, buf, result + number(head, 38, 2))? else {
         return Ok(Verdict::CutOff);
-    }
-    if !reads(stdin, &mut buf[..end])? {
-        return Ok(Verdict::CutOff);
-    }
-    Ok(lends(head, work, mem, &buf[..end], result))
-}
-
-// Reads the next case and has the call answer it.
-fn next(
-    stdin: &mut impl Read,
-    work: &mut [u8],
-    mem: &mut [u8],
-    buf: &mut [u8],
-) -> io::Result<Verdict> {
-    let mut head = [0u8; HEAD];
-    let got = read_full(stdin, &mut head)?;
-    if got == 0 {
-        return Ok(Verdict::Ended);
-    }
-    if got < HEAD {
-        return Ok(Verdict::CutOff);
-    }
-    rest(stdin, &head, work, mem, buf)
-}
-
-// Replays the case after `done` others, and answers whether to go on.
-fn goes_on(
-    rt: &impl Print,
-    stdin: &mut impl Read,
-    work: &mut [u8],
-    mem: &mut [u8],
-    buf: &mut [u8],
-    done: u64,
-) -> io::Result<bool> {
-    let outcome = next(stdin, work, mem, buf)?;
-    Ok(replays::goes_on(rt, outcome, done, b" call"))
-}
-
-// A proved loop has to end, and nothing says that the input does. So the loop counts, up to a
-// number that no run reaches.
-fn replay(
-    rt: &impl Print,
-    stdin: &mut impl Read,
-    work: &mut [u8],
-    mem: &mut [u8],
-    buf: &mut [u8],
-) -> io::Result<()> {
-    for done in 0..u64::MAX {
-        if !goes_on(rt, stdin, work, mem, buf, done)? {
-            break;
-        }
-    }
-    Ok(())
-}
-
-// The buffers are lent as arrays, so that no proof has to count their bytes.
-fn run(
-    rt: &impl Print,
-    stdin: &mut impl Read,
-    work: &mut [u8; WORK],
-    mem: &mut [u8; MEMORY],
-    buf: &mut [u8; PARTS],
-) -> io::Result<()> {
-    replay(rt, stdin, work, mem, buf)
+    };
+    Ok(lends(head, work, mem, parts, result))
 }
 
 fn main(rt: HostRuntime) -> io::Result<()> {
     let mut work = [0u8; WORK];
     let mut mem = [0u8; MEMORY];
     let mut buf = [0u8; PARTS];
-    run(&rt, &mut rt.stdin(), &mut work, &mut mem, &mut buf)
+    replay(&rt, &mut rt.stdin(), b" call", [0; HEAD], |stdin, head| {
+        rest(stdin, head, &mut work, &mut mem, &mut buf)
+    })
 }

@@ -17,7 +17,7 @@ use names::refusals::{place_at, refusing};
 use order::{Case, agrees};
 use ordering::BINDING_LIMIT;
 use records::{MOST_LONGEST, WORK_FACTOR};
-use replays::{Verdict, read_full, reads};
+use replays::{Verdict, read_part, replay};
 use std::io;
 use std::io::Read;
 
@@ -65,73 +65,20 @@ fn rest(
     wanted: &mut [u8],
     buf: &mut [u8],
 ) -> io::Result<Verdict> {
-    let count = number(head, 17, 1);
-    let len = number(head, 18, 2);
-    if count > wanted.len() {
+    let Some(wanted) = read_part(stdin, wanted, number(head, 17, 1))? else {
         return Ok(Verdict::CutOff);
-    }
-    if len > buf.len() {
+    };
+    let Some(input) = read_part(stdin, buf, number(head, 18, 2))? else {
         return Ok(Verdict::CutOff);
-    }
-    if !reads(stdin, &mut wanted[..count])? {
-        return Ok(Verdict::CutOff);
-    }
-    if !reads(stdin, &mut buf[..len])? {
-        return Ok(Verdict::CutOff);
-    }
-    Ok(judged(head, work, &wanted[..count], &buf[..len]))
+    };
+    Ok(judged(head, work, wanted, input))
 }
 
-// Reads the next case and has the call answer it.
-fn next(stdin: &mut impl Read, work: &mut [u8], buf: &mut [u8]) -> io::Result<Verdict> {
-    let mut head = [0u8; HEAD];
-    let got = read_full(stdin, &mut head)?;
-    if got == 0 {
-        return Ok(Verdict::Ended);
-    }
-    if got < HEAD {
-        return Ok(Verdict::CutOff);
-    }
-    let mut wanted = [0u8; BINDING_LIMIT];
-    rest(stdin, &head, work, &mut wanted, buf)
-}
-
-// Replays the case after `done` others, and answers whether to go on.
-fn goes_on(
-    rt: &impl Print,
-    stdin: &mut impl Read,
-    work: &mut [u8],
-    buf: &mut [u8],
-    done: u64,
-) -> io::Result<bool> {
-    let outcome = next(stdin, work, buf)?;
-    Ok(replays::goes_on(rt, outcome, done, b" order"))
-}
-
-// A proved loop has to end, and nothing says that the input does. So the loop counts, up to a
-// number that no run reaches.
-fn replay(
-    rt: &impl Print,
-    stdin: &mut impl Read,
-    work: &mut [u8],
-    buf: &mut [u8],
-) -> io::Result<()> {
-    for done in 0..u64::MAX {
-        if !goes_on(rt, stdin, work, buf, done)? {
-            break;
-        }
-    }
-    Ok(())
-}
-
-// The buffer holds the longest input that a length of two bytes can announce.
-fn run(rt: &impl Print, stdin: &mut impl Read, work: &mut [u8; WORK]) -> io::Result<()> {
-    let mut buf = [0u8; LONGEST];
-    replay(rt, stdin, work, &mut buf)
-}
-
-// Work memory is lent as an array, so that no proof has to count its bytes.
 fn main(rt: HostRuntime) -> io::Result<()> {
     let mut work = [0u8; WORK];
-    run(&rt, &mut rt.stdin(), &mut work)
+    let mut wanted = [0u8; BINDING_LIMIT];
+    let mut buf = [0u8; LONGEST];
+    replay(&rt, &mut rt.stdin(), b" order", [0; HEAD], |stdin, head| {
+        rest(stdin, head, &mut work, &mut wanted, &mut buf)
+    })
 }

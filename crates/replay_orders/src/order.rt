@@ -3,10 +3,9 @@ ghost use Rattle.std.specs.Prelude.{◌≡◌};
 ghost use Rattle.replays.specs.Judging.{Decides};
 ghost use Rattle.replay_orders.specs.Orders.{AllHeld, BytesAgree, OrderAgrees, Somewhere, AgreesIn};
 
-use names::bytes::same;
 use names::{Answer, Refusal};
 use ordering::call::order_call;
-use replays::{fill, same_refusal, untouched};
+use replays::{fill, untouched};
 
 // What a case gives the call beside its input, and the refusal and rounds that it must get.
 #[derive(Clone, Copy)]
@@ -21,41 +20,21 @@ pub struct Case {
 fn holds(list: &[u8], byte: u8) -> bool
     ensures { Decides result (Somewhere byte list.now) }
 {
-    let mut i = 0;
-    while i < list.len() {
-        if list[i] == byte {
-            return true;
-        }
-        i += 1;
-    }
-    false
+    list.contains(&byte)
 }
 
 // Whether each byte of one list stands in another.
 fn all_held(list: &[u8], bytes: &[u8]) -> bool
     ensures { Decides result (AllHeld bytes.now list.now) }
 {
-    let mut i = 0;
-    while i < bytes.len() {
-        if !holds(list, bytes[i]) {
-            return false;
-        }
-        i += 1;
-    }
-    true
+    bytes.iter().all(|b| holds(list, *b))
 }
 
 // Whether refusal, counter and rounds are those of the case.
 fn same_head(c: Case, a: Answer) -> bool
     ensures { Decides result ((a.refusal ≡ c.refusal) × (a.counter ≡ c.counter) × (a.rounds ≡ c.rounds)) }
 {
-    if a.counter != c.counter {
-        return false;
-    }
-    if a.rounds != c.rounds {
-        return false;
-    }
-    same_refusal(a.refusal, c.refusal)
+    a.refusal == c.refusal && a.counter == c.counter && a.rounds == c.rounds
 }
 
 // Whether the bytes written are the wanted ones: of a deadlock in any sequence.
@@ -63,9 +42,10 @@ fn same_bytes(number: u32, got: &[u8], wanted: &[u8]) -> bool
     ensures { Decides result (BytesAgree number got.now wanted.now) }
 {
     if number == 5 {
-        return got.len() == wanted.len() && all_held(got, wanted);
+        got.len() == wanted.len() && all_held(got, wanted)
+    } else {
+        got == wanted
     }
-    same(got, wanted)
 }
 
 // Whether an answer and the buffer that it leaves are those of the case.
@@ -73,16 +53,10 @@ fn same_result(c: Case, a: Answer, res: &[u8], wanted: &[u8]) -> bool
     ensures { Decides result (OrderAgrees c wanted.now (a, res.now)) }
 {
     let len = a.len;
-    if len > res.len() {
-        return false;
-    }
-    if !same_head(c, a) {
-        return false;
-    }
-    if !untouched(&res[len..]) {
-        return false;
-    }
-    same_bytes(a.refusal.number, &res[..len], wanted)
+    len <= res.len()
+        && same_head(c, a)
+        && untouched(&res[len..])
+        && same_bytes(a.refusal.number, &res[..len], wanted)
 }
 
 // Whether the call answers a case as it must.

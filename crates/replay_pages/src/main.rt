@@ -16,7 +16,7 @@ use names::bytes::number;
 use names::refusals::{place_at, refusing};
 use page::{Case, agrees};
 use records::{MOST_LONGEST, WORK_FACTOR};
-use replays::{Verdict, read_full, reads};
+use replays::{Verdict, read_part, replay};
 use std::io;
 use std::io::Read;
 
@@ -74,74 +74,21 @@ fn rest(
     wanted: &mut [u8],
     buf: &mut [u8],
 ) -> io::Result<Verdict> {
-    let count = number(head, 15, 4);
-    let len = number(head, 19, 2);
-    if count > wanted.len() {
+    let Some(wanted) = read_part(stdin, wanted, number(head, 15, 4))? else {
         return Ok(Verdict::CutOff);
-    }
-    if len > buf.len() {
+    };
+    let Some(input) = read_part(stdin, buf, number(head, 19, 2))? else {
         return Ok(Verdict::CutOff);
-    }
-    if !reads(stdin, &mut wanted[..count])? {
-        return Ok(Verdict::CutOff);
-    }
-    if !reads(stdin, &mut buf[..len])? {
-        return Ok(Verdict::CutOff);
-    }
+    };
     let mut result = [0u8; MOST_RESULT];
-    Ok(judged(head, work, &mut result, &wanted[..count], &buf[..len]))
+    Ok(judged(head, work, &mut result, wanted, input))
 }
 
-// Reads the next case and has the call answer it.
-fn next(stdin: &mut impl Read, work: &mut [u8], buf: &mut [u8]) -> io::Result<Verdict> {
-    let mut head = [0u8; HEAD];
-    let got = read_full(stdin, &mut head)?;
-    if got == 0 {
-        return Ok(Verdict::Ended);
-    }
-    if got < HEAD {
-        return Ok(Verdict::CutOff);
-    }
-    let mut wanted = [0u8; MOST_RESULT];
-    rest(stdin, &head, work, &mut wanted, buf)
-}
-
-// Replays the case after `done` others, and answers whether to go on.
-fn goes_on(
-    rt: &impl Print,
-    stdin: &mut impl Read,
-    work: &mut [u8],
-    buf: &mut [u8],
-    done: u64,
-) -> io::Result<bool> {
-    let outcome = next(stdin, work, buf)?;
-    Ok(replays::goes_on(rt, outcome, done, b" page"))
-}
-
-// A proved loop has to end, and nothing says that the input does. So the loop counts, up to a
-// number that no run reaches.
-fn replay(
-    rt: &impl Print,
-    stdin: &mut impl Read,
-    work: &mut [u8],
-    buf: &mut [u8],
-) -> io::Result<()> {
-    for done in 0..u64::MAX {
-        if !goes_on(rt, stdin, work, buf, done)? {
-            break;
-        }
-    }
-    Ok(())
-}
-
-// The buffer holds the longest input that a length of two bytes can announce.
-fn run(rt: &impl Print, stdin: &mut impl Read, work: &mut [u8; WORK]) -> io::Result<()> {
-    let mut buf = [0u8; LONGEST];
-    replay(rt, stdin, work, &mut buf)
-}
-
-// Work memory is lent as an array, so that no proof has to count its bytes.
 fn main(rt: HostRuntime) -> io::Result<()> {
     let mut work = [0u8; WORK];
-    run(&rt, &mut rt.stdin(), &mut work)
+    let mut wanted = [0u8; MOST_RESULT];
+    let mut buf = [0u8; LONGEST];
+    replay(&rt, &mut rt.stdin(), b" page", [0; HEAD], |stdin, head| {
+        rest(stdin, head, &mut work, &mut wanted, &mut buf)
+    })
 }

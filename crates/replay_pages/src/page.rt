@@ -3,10 +3,9 @@ ghost use Rattle.std.specs.Prelude.{◌≡◌};
 ghost use Rattle.replays.specs.Judging.{Decides};
 ghost use Rattle.replay_pages.specs.Pages.{PageAgrees, AgreesIn};
 
-use names::bytes::same;
 use names::{Answer, Refusal};
 use outline::page::page_call;
-use replays::{fill, same_refusal, untouched};
+use replays::{fill, untouched};
 
 // What a case gives the call beside its input, and the refusal that it must get.
 #[derive(Clone, Copy)]
@@ -19,13 +18,14 @@ pub struct Case {
 fn same_head(c: Case, a: Answer) -> bool
     ensures { Decides result ((a.refusal ≡ c.refusal) × (a.counter ≡ 0) × (a.rounds ≡ 0)) }
 {
-    if a.counter != 0 {
-        return false;
-    }
-    if a.rounds != 0 {
-        return false;
-    }
-    same_refusal(a.refusal, c.refusal)
+    a.refusal == c.refusal && a.counter == 0 && a.rounds == 0
+}
+
+// Whether the bytes written are the wanted ones.
+fn same_bytes(got: &[u8], wanted: &[u8]) -> bool
+    ensures { Decides result (got.now ≡ wanted.now) }
+{
+    got == wanted
 }
 
 // Whether an answer and the buffer that it leaves are those of the case.
@@ -33,16 +33,7 @@ fn same_result(c: Case, a: Answer, res: &[u8], wanted: &[u8]) -> bool
     ensures { Decides result (PageAgrees c wanted.now (a, res.now)) }
 {
     let len = a.len;
-    if len > res.len() {
-        return false;
-    }
-    if !same_head(c, a) {
-        return false;
-    }
-    if !untouched(&res[len..]) {
-        return false;
-    }
-    same(&res[..len], wanted)
+    len <= res.len() && same_head(c, a) && untouched(&res[len..]) && same_bytes(&res[..len], wanted)
 }
 
 // Whether the call answers a case as it must.

@@ -16,9 +16,9 @@ wanted_of zero = Form
 wanted_of (suc zero) = Helper
 wanted_of (suc (suc n)) = Assign
 
--- what the reader answers to a case: kind, F and input, with work memory for every F and the counter 0
-abbrev pub reading : ℕ → ℕ → Bytes → Result (Unit {0}) Refusal
-reading kind f input = opening_of (open_input (wanted_reader (wanted_of kind)).1 f (work_factor * most_longest) 0 input)
+-- what the reader answers to a case: the record, F and input, with work memory for every F and the counter 0
+abbrev pub reading : Wanted → ℕ → Bytes → Result (Unit {0}) Refusal
+reading wanted f input = opening_of (open_input (wanted_reader wanted).1 f (work_factor * most_longest) 0 input)
 
 -- the answer that a number and a place tell: accepted is 0 at 0
 abbrev pub told_if : Bool → ℕ → ℕ → Result (Unit {0}) Refusal
@@ -30,4 +30,4 @@ told number place = told_if (eqb number 0 && eqb place 0) number place
 
 -- A case agrees: its head is kind, number, F and place, 1, 1, 2 and 2 bytes.
 pub record ReadAgrees (head input : Bytes) : Type 0 where
-  pub answer : reading (head_field head 0 1) (head_field head 2 2) input ≡ told (head_field head 1 1) (head_field head 4 2)
+  pub answer : reading (wanted_of (head_field head 0 1)) (head_field head 2 2) input ≡ told (head_field head 1 1) (head_field head 4 2)

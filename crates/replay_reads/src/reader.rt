@@ -8,7 +8,7 @@ use records::input::open_input;
 use records::{MOST_LONGEST, WORK_FACTOR, Wanted};
 
 // The record that a case's kind asks for.
-fn wanted(kind: u8) -> Wanted
+pub fn wanted(kind: u8) -> Wanted
     ensures { result ≡ wanted_of kind }
 {
     match kind {
@@ -34,9 +34,9 @@ fn tells(opening: Result<(), Refusal>, number: u32, place: u64) -> bool
 }
 
 // Whether the reader answers a case as it must.
-pub fn agrees(kind: u8, f: usize, number: u32, place: u64, input: &[u8]) -> bool
-    ensures { Decides result (reading kind f input.now ≡ told number place) }
+pub fn agrees(wanted: Wanted, f: usize, number: u32, place: u64, input: &[u8]) -> bool
+    ensures { Decides result (reading wanted f input.now ≡ told number place) }
 {
-    let opening = open_input(wanted(kind), f, WORK_FACTOR * MOST_LONGEST, 0, input);
+    let opening = open_input(wanted, f, WORK_FACTOR * MOST_LONGEST, 0, input);
     tells(opening, number, place)
 }

@@ -1,5 +1,5 @@
 -- What the tests of a case decide: what stands at a place, a step and how far names are drawn. Assumes nothing.
-use mathlib.Core.Bool.{Bool, true, false}
+use mathlib.Core.Bool.{Bool, true}
 use mathlib.Core.Path.{◌≡◌, refl, sym, ap, ◌∙◌}
 use native.Mathlib.Omega.{arith}
 use Prim.Native.Nat.{ℕ, zero, suc, ◌-◌, ◌≤◌}
@@ -14,12 +14,7 @@ use Rattle.records.specs.StepAnswer.{Outcome, Gives, gave, refused}
 use Rattle.records.specs.declared.Step.{Step}
 use Rattle.replays.proofs.Deciding.{decides_as, decides_same}
 use Rattle.replays.specs.Judging.{Decides, filling}
-use Rattle.replay_sexps.specs.Cases.{due_step, numbered_rule, Tells}
-use Rattle.walk.specs.Arena.{Substitutes}
-use Rattle.walk.specs.DrawnMaps.{growth}
-use Rattle.walk.specs.RenameInCons.{rename_atom, rename_in_cons, rename_in_qq}
-use Rattle.walk.specs.declared.Growth.{Growth}
-use Rattle.walk.specs.declared.Task.{Task}
+use Rattle.replay_sexps.specs.Cases.{due_step, Tells}
 use Rattle.std.specs.declared.result.Result.{Result}
 use Rattle.std.specs.declared.result.Result.TheVariants.{Err}
 use Rattle.records.specs.StepAnswer.{step_of}
@@ -44,22 +39,8 @@ decides_between xs a b le fits d =
     (λ h. sym (ap (λ (k : ℕ). take k (drop a xs)) n) ∙ h.there ∙ sym (ap filling l))
     d
 
--- how far names are drawn, field by field
-pub same_growth : (len c e : ℕ) {g : Growth} → g.len ≡ len → g.counter ≡ c → g.end ≡ e → g ≡ growth len c e
-same_growth len c e {g} p q r = go
-  where
-    go : growth g.len g.counter g.end ≡ growth len c e
-    go = rw (p, q, r)
-
 -- the step of a case, by its number
 module _ (read wrote c : ℕ) {step : Result Step Refusal} where
-  pub due_done : (n : ℕ) {r w k : ℕ} → step ≡ step_of r w k → n ≡ 0 → r ≡ read → w ≡ wrote → k ≡ c → step ≡ due_step n read wrote c
-  due_done n s z p q e = rw z (s ∙ rw (p, q, e))
-
-  pub due_refused : (n : ℕ) {r : Refusal} → step ≡ Err r → (n ≡ 0 → ⊥) → r ≡ placeless n → step ≡ due_step n read wrote c
-  due_refused zero s z e = absurd (z refl)
-  due_refused (suc n) s z e = s ∙ ap Err e
-
   -- what a step that is that of a case tells
   pub done_number : (n : ℕ) {r w k : ℕ} → step ≡ step_of r w k → step ≡ due_step n read wrote c → n ≡ 0
   done_number zero s d = refl
@@ -76,28 +57,6 @@ module _ (read wrote c : ℕ) {step : Result Step Refusal} where
   pub refused_is : (n : ℕ) {r : Refusal} → step ≡ Err r → step ≡ due_step n read wrote c → r ≡ placeless n
   refused_is zero s d = let z : ◌≡◌ {A = ℕ} 0 1 = cc in absurd (omega arith)
   refused_is (suc n) s d = cc
-
--- a test against an equal
-pub decides_other : {t : Bool} {a b k : Refusal} → b ≡ k → Decides t (a ≡ b) → Decides t (a ≡ k)
-decides_other e d = rw e at d
-
--- the rule of a number
-module _ (k : ℕ) {old new : Bytes} {t : Task} {r : Result Step Refusal} where
-  pub rule_zero : k ≡ 0 → Substitutes (rename_in_cons false) old new t r → Substitutes (numbered_rule k) old new t r
-  rule_zero q h = rw q h
-
-  pub rule_one : k ≡ 1 → Substitutes (rename_in_cons true) old new t r → Substitutes (numbered_rule k) old new t r
-  rule_one q h = rw q h
-
-  pub rule_two : k ≡ 2 → Substitutes (rename_in_qq true) old new t r → Substitutes (numbered_rule k) old new t r
-  rule_two q h = rw q h
-
-pub rule_more : (k : ℕ) {old new : Bytes} {t : Task} {r : Result Step Refusal} → (k ≡ 0 → ⊥) → (k ≡ 1 → ⊥) → (k ≡ 2 → ⊥) → Substitutes rename_atom old new t r
-    → Substitutes (numbered_rule k) old new t r
-rule_more zero a b c h = absurd (a refl)
-rule_more (suc zero) a b c h = absurd (b refl)
-rule_more (suc (suc zero)) a b c h = absurd (c refl)
-rule_more (suc (suc (suc k))) a b c h = h
 
 -- a step that is that of a case, with the wanted bytes where its result goes: the case tells the outcome
 pub told : (number read after n : ℕ) (wanted mem : Bytes) {k : ℕ} {o : Outcome Sexp} {step : Result Step Refusal} → Gives sexp_bytes mem n k o step

@@ -12,6 +12,8 @@ use Rattle.records.specs.Valid.{SexpFields, cons_depth, ValidSexp, ValidForm}
 use Rattle.records.specs.declared.Step.{Step}
 use Rattle.replays.specs.Judging.{filling}
 use Rattle.replay_sexps.specs.declared.sexps.Case.{Case}
+use Rattle.replay_sexps.specs.declared.sexps.Rule.{Rule}
+use Rattle.replay_sexps.specs.declared.sexps.Rule.TheVariants.{Substitute, IntoQq, InsideQq, Alone}
 use Rattle.walk.specs.Arena.{MapAt, fitting, outcome}
 use Rattle.walk.specs.DrawnMaps.{growth}
 use Rattle.walk.specs.Invent.{invent_new_names_sexp}
@@ -66,11 +68,18 @@ pub record DueGrowth (c pattern body len : ℕ) (g : Growth) : Type 0 where
   pub is : g ≡ growth len c (body - pattern - 1)
 
 -- the rule of a number: 0 Substitute, 1 with `qq` looked into, 2 inside `qq`, else for an S record alone in a body
-abbrev pub numbered_rule : ℕ → NameMap → Sexp → Sexp
-numbered_rule zero = rename_in_cons false
-numbered_rule (suc zero) = rename_in_cons true
-numbered_rule (suc (suc zero)) = rename_in_qq true
-numbered_rule (suc (suc (suc n))) = rename_atom
+abbrev pub rule_of : ℕ → Rule
+rule_of zero = Substitute
+rule_of (suc zero) = IntoQq
+rule_of (suc (suc zero)) = InsideQq
+rule_of (suc (suc (suc n))) = Alone
+
+-- what a rule makes of an S record
+abbrev pub ruled : Rule → NameMap → Sexp → Sexp
+ruled Substitute = rename_in_cons false
+ruled IntoQq = rename_in_cons true
+ruled InsideQq = rename_in_qq true
+ruled Alone = rename_atom
 
 -- a case tells this outcome: its number is 0, and the wanted bytes and the counter are those given; or its number is that of the refusal, which names no place
 abbrev pub Tells : ℕ → ℕ → Bytes → Outcome Sexp → Type 0
@@ -81,14 +90,14 @@ Tells number after wanted (refuses r) = (number ≡ 0 → ⊥) × (r ≡ placele
 abbrev pub Renamed : Case → Bytes → ℕ → ℕ → ℕ → Bytes → Type 0
 Renamed c mem n at len wanted =
     (t : Sexp) (m : NameMap) → Ready mem n at len c.room t m
-    → Tells c.substituted c.after wanted (fitting sexp_bytes c.room c.after (numbered_rule c.rule m t))
+    → Tells c.substituted c.after wanted (fitting sexp_bytes c.room c.after (ruled c.rule m t))
 
 -- a case tells this outcome of drawing names, and what its rule then makes of t: its number is 0, and the map and the counter are those given;
 -- or its number is that of the refusal, which names no place
 abbrev pub TellsDrawn : Case → Bytes → Bytes → Sexp → Outcome NameMap → Type 0
 TellsDrawn c map wanted t (gives m k) =
     (c.invented ≡ 0) × (k ≡ c.after) × (map_bytes m ≡ map)
-    × Tells c.substituted c.after wanted (fitting sexp_bytes c.room c.after (numbered_rule c.rule m t))
+    × Tells c.substituted c.after wanted (fitting sexp_bytes c.room c.after (ruled c.rule m t))
 TellsDrawn c map wanted t (refuses r) = r ≡ placeless c.invented
 
 -- by the definitions, drawing names from p and then substituting t gives what a case tells

@@ -15,8 +15,8 @@ ghost use Rattle.std.specs.Prelude.{◌≤◌, length};
 
 use names::bytes::number;
 use records::MOST_LONGEST;
-use replays::{Verdict, read_full, reads};
-use sexps::{Case, FACTOR, agrees};
+use replays::{Verdict, read_part, replay};
+use sexps::{Case, FACTOR, agrees, rule_of};
 use std::io;
 use std::io::Read;
 
@@ -35,7 +35,7 @@ fn case_of(head: &[u8; HEAD]) -> Case {
         f: number(head, 0, 2),
         room: number(head, 2, 2),
         counter: number(head, 4, 8) as u64,
-        rule: number(head, 12, 1) as u8,
+        rule: rule_of(number(head, 12, 1) as u8),
         invented: number(head, 13, 1) as u32,
         after: number(head, 14, 8) as u64,
         substituted: number(head, 22, 1) as u32,
@@ -60,69 +60,20 @@ fn rest(
 ) -> io::Result<Verdict> {
     let result = number(head, 23, 2);
     let input = result + number(head, 25, 2);
-    let end = input + number(head, 27, 2);
-    if end > buf.len() {
+    let Some(parts) = read_part(stdin, buf, input + number(head, 27, 2))? else {
         return Ok(Verdict::CutOff);
-    }
-    if !reads(stdin, &mut buf[..end])? {
-        return Ok(Verdict::CutOff);
-    }
-    Ok(judged(head, mem, &buf[..end], result, input))
-}
-
-// Reads the next case and has the calls answer it.
-fn next(stdin: &mut impl Read, mem: &mut [u8], buf: &mut [u8]) -> io::Result<Verdict> {
-    let mut head = [0u8; HEAD];
-    let got = read_full(stdin, &mut head)?;
-    if got == 0 {
-        return Ok(Verdict::Ended);
-    }
-    if got < HEAD {
-        return Ok(Verdict::CutOff);
-    }
-    rest(stdin, &head, mem, buf)
-}
-
-// Replays the case after `done` others, and answers whether to go on.
-fn goes_on(
-    rt: &impl Print,
-    stdin: &mut impl Read,
-    mem: &mut [u8],
-    buf: &mut [u8],
-    done: u64,
-) -> io::Result<bool> {
-    let outcome = next(stdin, mem, buf)?;
-    Ok(replays::goes_on(rt, outcome, done, b" S record"))
-}
-
-// A proved loop has to end, and nothing says that the input does. So the loop counts, up to a
-// number that no run reaches.
-fn replay(
-    rt: &impl Print,
-    stdin: &mut impl Read,
-    mem: &mut [u8],
-    buf: &mut [u8],
-) -> io::Result<()> {
-    for done in 0..u64::MAX {
-        if !goes_on(rt, stdin, mem, buf, done)? {
-            break;
-        }
-    }
-    Ok(())
-}
-
-// Both buffers are lent as arrays, so that no proof has to count their bytes.
-fn run(
-    rt: &impl Print,
-    stdin: &mut impl Read,
-    mem: &mut [u8; MEMORY],
-    buf: &mut [u8; PARTS],
-) -> io::Result<()> {
-    replay(rt, stdin, mem, buf)
+    };
+    Ok(judged(head, mem, parts, result, input))
 }
 
 fn main(rt: HostRuntime) -> io::Result<()> {
     let mut mem = [0u8; MEMORY];
     let mut buf = [0u8; PARTS];
-    run(&rt, &mut rt.stdin(), &mut mem, &mut buf)
+    replay(
+        &rt,
+        &mut rt.stdin(),
+        b" S record",
+        [0; HEAD],
+        |stdin, head| { rest(stdin, head, &mut mem, &mut buf) },
+    )
 }

@@ -5,7 +5,7 @@ ghost use Rattle.names.specs.Refusals.{placeless};
 ghost use Rattle.names.specs.Segments.{At};
 ghost use Rattle.records.specs.Records.{Sexp, Form, sexp_bytes};
 ghost use Rattle.replays.specs.Judging.{Decides};
-ghost use Rattle.replay_sexps.specs.Cases.{Taken, FormIn, SexpsIn, Ready, Holds, due_step, DueGrowth, numbered_rule, Renamed, DrawsAsTold, FormsAsTold, InputAsTold};
+ghost use Rattle.replay_sexps.specs.Cases.{Taken, FormIn, SexpsIn, Ready, Holds, due_step, DueGrowth, rule_of, ruled, Renamed, DrawsAsTold, FormsAsTold, InputAsTold};
 ghost use Rattle.walk.specs.Arena.{Asks, Held, Substitutes};
 
 use names::Refusal;
@@ -16,7 +16,7 @@ use records::helpers::form_view;
 use records::input::open_input;
 use records::record::body_mark;
 use records::{BodyMark, CONS_LIMIT, MOST_LONGEST, Step, WORK_FACTOR, Wanted};
-use replays::{fill, same_refusal, untouched};
+use replays::{fill, untouched};
 use walk::invent::invent_new_names_sexp;
 use walk::substitute::{rename_atom, rename_in_cons, rename_in_qq};
 use walk::{Growth, Task};
@@ -27,13 +27,23 @@ const WORK: usize = WORK_FACTOR * MOST_LONGEST;
 // How many bytes of memory each byte of an input takes, with the map that it can leave.
 pub const FACTOR: usize = 4;
 
+// How the S record of a case is substituted: by Substitute, with `qq` looked into, inside `qq`, or
+// as an S record alone in a body.
+#[derive(Clone, Copy)]
+pub enum Rule {
+    Substitute,
+    IntoQq,
+    InsideQq,
+    Alone,
+}
+
 // What a case gives beside its input, and the numbers and the counter that it must get.
 #[derive(Clone, Copy)]
 pub struct Case {
     pub f: usize,
     pub room: usize,
     pub counter: u64,
-    pub rule: u8,
+    pub rule: Rule,
     pub invented: u32,
     pub after: u64,
     pub substituted: u32,
@@ -46,6 +56,18 @@ struct Places {
     pattern: usize,
     body: usize,
     target: usize,
+}
+
+// The rule of a number.
+pub fn rule_of(number: u8) -> Rule
+    ensures { result ≡ rule_of number }
+{
+    match number {
+        0 => Rule::Substitute,
+        1 => Rule::IntoQq,
+        2 => Rule::InsideQq,
+        _ => Rule::Alone,
+    }
 }
 
 // Fills memory, with the input at its front.
@@ -82,7 +104,7 @@ fn holds(mem: &[u8], input: &[u8], from: usize, map: &[u8]) -> bool
 fn refused_as(number: u32, refusal: Refusal) -> bool
     ensures { Decides result (refusal ≡ placeless number) }
 {
-    same_refusal(refusal, placeless(number))
+    refusal == placeless(number)
 }
 
 // Whether a step answers as it must: it read and wrote so many bytes and left the counter, or it is
@@ -97,37 +119,21 @@ fn same_step(
     ensures { Decides result (step ≡ due_step number read wrote counter) }
 {
     match step {
-        Ok(s) => {
-            if number != 0 {
-                return false;
-            }
-            if s.read != read {
-                return false;
-            }
-            if s.written != wrote {
-                return false;
-            }
-            s.counter == counter
-        }
-        Err(refusal) => {
-            if number == 0 {
-                return false;
-            }
-            refused_as(number, refusal)
-        }
+        Ok(s) => number == 0 && s.read == read && s.written == wrote && s.counter == counter,
+        Err(refusal) => number != 0 && refused_as(number, refusal),
     }
 }
 
 // Substitutes the S record at the start of memory by the rule of a case.
-fn substitute(rule: u8, mem: &mut [u8], task: Task) -> Result<Step, Refusal>
+fn substitute(rule: Rule, mem: &mut [u8], task: Task) -> Result<Step, Refusal>
     requires { Asks sexp_bytes (Held task.depth) mem.old task }
-    ensures { Substitutes (numbered_rule rule) mem.old mem.new task result }
+    ensures { Substitutes (ruled rule) mem.old mem.new task result }
 {
     match rule {
-        0 => rename_in_cons(mem, task, false),
-        1 => rename_in_cons(mem, task, true),
-        2 => rename_in_qq(mem, task),
-        _ => rename_atom(mem, task),
+        Rule::Substitute => rename_in_cons(mem, task, false),
+        Rule::IntoQq => rename_in_cons(mem, task, true),
+        Rule::InsideQq => rename_in_qq(mem, task),
+        Rule::Alone => rename_atom(mem, task),
     }
 }
 
@@ -168,16 +174,10 @@ fn renames(
 fn same_draw(counter: u64, at: Places, len: usize, drawn: Growth) -> bool
     ensures { Decides result (DueGrowth counter at.pattern at.body len drawn) }
 {
-    if at.body <= at.pattern {
-        return false;
-    }
-    if drawn.counter != counter {
-        return false;
-    }
-    if drawn.end != at.body - at.pattern - 1 {
-        return false;
-    }
-    drawn.len == len
+    at.pattern < at.body
+        && drawn.counter == counter
+        && drawn.end == at.body - at.pattern - 1
+        && drawn.len == len
 }
 
 // Whether both calls answer as they must.

@@ -1,11 +1,10 @@
-// What the programs that replay stored cases share: what came of a case and what is said of it,
-// memory that is filled before a call, and refusals compared.
+// What the programs that replay stored cases share: the loop over the cases, what is said of them,
+// and memory that is filled before a call.
 #![tactic(auto)]
 
-ghost use Rattle.std.specs.Prelude.{◌≡◌, ◌≤◌, length, IfOk};
+ghost use Rattle.std.specs.Prelude.{◌≡◌, ◌≤◌, length, IfOk, IfSome};
 ghost use Rattle.replays.specs.Judging.{Decides, filling, judged_as, goes_further};
 
-use names::Refusal;
 use std::io;
 use std::io::Read;
 
@@ -27,6 +26,7 @@ pub fn read_full(stdin: &mut impl Read, buf: &mut [u8]) -> io::Result<usize>
     ensures { IfOk result (λ done. done ≤ length buf.new) }
 {
     let mut done = 0;
+    // No range: the place moves by what a read gives.
     while done < buf.len() {
         let n = stdin.read(&mut buf[done..])?;
         if n == 0 {
@@ -37,9 +37,22 @@ pub fn read_full(stdin: &mut impl Read, buf: &mut [u8]) -> io::Result<usize>
     Ok(done)
 }
 
-// Whether the bytes that fill a buffer can be read.
-pub fn reads(stdin: &mut impl Read, buf: &mut [u8]) -> io::Result<bool> {
-    Ok(read_full(stdin, buf)? == buf.len())
+// Reads so many bytes to the front of a buffer, and hands them out: none where the buffer is too
+// short for them or the input ends before.
+pub fn read_part<'a>(
+    stdin: &mut impl Read,
+    buf: &'a mut [u8],
+    count: usize,
+) -> io::Result<Option<&'a [u8]>>
+    ensures { IfOk result (λ o. IfSome o (λ part. length part.now ≡ count)) }
+{
+    let Some(part) = buf.get_mut(..count) else {
+        return Ok(None);
+    };
+    if read_full(stdin, part)? < count {
+        return Ok(None);
+    }
+    Ok(Some(part))
 }
 
 // Agrees, or differs.
@@ -86,34 +99,54 @@ pub fn goes_on(rt: &impl Print, outcome: Verdict, done: u64, kind: &[u8]) -> boo
     false
 }
 
+// What a case begins with: an array of bytes. A bound on a closure cannot name an array's length.
+pub trait Head: Drop {
+    // All bytes of it.
+    fn bytes(&mut self) -> &mut [u8];
+}
+
+impl<const N: usize> Head for [u8; N] {
+    fn bytes(&mut self) -> &mut [u8] {
+        self
+    }
+}
+
+// Replays cases of a kind while they agree, and says what came of them. What each begins with is
+// read into `head`; `judge` reads what follows, and judges the case. A proved loop has to end, and
+// nothing says that the input does. So the loop counts, up to a number that no run reaches.
+pub fn replay<H: Head, R: Read, F: FnMut(&mut R, &H) -> io::Result<Verdict>>(
+    rt: &impl Print,
+    stdin: &mut R,
+    kind: &[u8],
+    mut head: H,
+    mut judge: F,
+) -> io::Result<()>
+    requires { F.IsAlwaysCallable judge }
+{
+    for done in 0..u64::MAX {
+        let bytes = head.bytes();
+        let outcome = match read_full(stdin, bytes)? {
+            0 => Verdict::Ended,
+            n if n < bytes.len() => Verdict::CutOff,
+            _ => judge(stdin, &head)?,
+        };
+        if !goes_on(rt, outcome, done, kind) {
+            break;
+        }
+    }
+    Ok(())
+}
+
 // Fills memory.
 pub fn fill(mem: &mut [u8])
     ensures { mem.new ≡ filling (length mem.old) }
 {
-    let mut i = 0;
-    while i < mem.len() {
-        mem[i] = FILL;
-        i += 1;
-    }
+    mem.fill(FILL);
 }
 
 // Whether no byte differs from what memory was filled with.
 pub fn untouched(rest: &[u8]) -> bool
     ensures { Decides result (rest.now ≡ filling (length rest.now)) }
 {
-    let mut i = 0;
-    while i < rest.len() {
-        if rest[i] != FILL {
-            return false;
-        }
-        i += 1;
-    }
-    true
-}
-
-// Whether two refusals are the same.
-pub fn same_refusal(a: Refusal, b: Refusal) -> bool
-    ensures { Decides result (a ≡ b) }
-{
-    a.number == b.number && a.place.start == b.place.start
+    rest.iter().all(|b| *b == FILL)
 }

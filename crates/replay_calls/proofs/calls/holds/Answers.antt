@@ -1,32 +1,16 @@
 -- `replay_calls::calls::holds` meets its contract. Assumes nothing.
-use native.Mathlib.Omega.{arith}
-use lib.ListN.{length}
-use Rattle.replays.proofs.Deciding.{decides_as, decides_no, fails_not}
-use Rattle.replays.proofs.Filling.{decides_rest}
-use Rattle.replay_calls.proofs.CallLaws.{front_of, holds_front, holds_long, holds_made, holds_rest}
+use Rattle.std.proofs.Common.{Some, None}
+use Rattle.std.proofs.lemmas.Bool.Decides.{Decides-eqb}
+use Rattle.std.proofs.lemmas.Slice.Eq.{strip_prefix_is}
+use Rattle.replay_calls.proofs.CallLaws.{holds_not, holds_rest}
 use Rattle.replay_calls.proofs.calls.holds.Goals as goal
 
-pub returns-then-len-mem : goal.returns-then-len-mem
-returns-then-len-mem c =
+pub returns-in-Some : goal.returns-in-Some
+returns-in-Some c =
     let s = c.args in
-    decides_no (λ e. omega (arith, holds_long s.mem.now s.wanted.now e, c.if-len-mem.true))
+    holds_rest s.mem.now s.wanted.now _ (strip_prefix_is Decides-eqb s.mem.now s.wanted.now (Some c.in-Some.rest) c.in-Some.ensures.cases) c.untouched.ensures
 
-pub returns-then-not-is_word : goal.returns-then-not-is_word
-returns-then-not-is_word c =
-    let at-is-word = c.before.before in
-    let back = at-is-word.before.before.before in
-    let at-start = back.before in
-    let s = at-start.args in
-    let front = front_of s.mem.now s.wanted.now at-is-word.is_word.ensures in
-    decides_no (λ e. fails_not (c.if-not-is_word.true) front (holds_front s.mem.now s.wanted.now e))
-
-pub returns : goal.returns
-returns c =
-    let two = c.before.before.before in
-    let back = two.before.before.before in
-    let s = back.args in
-    let front = (front_of s.mem.now s.wanted.now two.is_word.ensures).only (two.if-not-is_word.false) in
-    decides_as
-    (holds_made s.mem.now s.wanted.now two.if-len-mem.false front)
-    (holds_rest s.mem.now s.wanted.now)
-    (decides_rest s.mem.now (length s.wanted.now) c.untouched.ensures)
+pub returns-in-None : goal.returns-in-None
+returns-in-None c =
+    let s = c.args in
+    holds_not s.mem.now s.wanted.now (strip_prefix_is Decides-eqb s.mem.now s.wanted.now None c.in-None.ensures.cases)

@@ -1,8 +1,8 @@
 -- `replay_sexps::sexps::draws` meets its contract: the input stands at the front of memory, and Invent leaves a map at its end. Assumes nothing.
 use mathlib.Core.List.{[]}
-use mathlib.Core.Path.{◌≡◌, ap, subst}
+use mathlib.Core.Path.{ap, subst}
 use native.Mathlib.Omega.{arith}
-use Prim.Native.Nat.{ℕ, ◌+◌, ◌*◌, ◌-◌, ◌≤◌}
+use Prim.Native.Nat.{◌+◌, ◌*◌, ◌-◌, ◌≤◌}
 use lib.ListN.{length}
 use Rattle.names.proofs.Parts.{back}
 use Rattle.walk.specs.DrawnMaps.{Roomy, InventsSexp}
@@ -98,15 +98,6 @@ invent_new_names_sexp-requires c =
     let p = (given l).requires.sexps_in in
     record { t = p.0; room = roomy_part (drawn-from l); deep = p.2.pattern_deep; m = []; map_at = no_map }
 
-pub returns-then-c-ne0 : goal.returns-then-c-ne0
-returns-then-c-ne0 c e = let z : ◌≡◌ {A = ℕ} 0 1 = cc in absurd (omega arith)
-
-pub returns-then-not-same_draw : goal.returns-then-not-same_draw
-returns-then-not-same_draw c e = let z : ◌≡◌ {A = ℕ} 0 1 = cc in absurd (omega arith)
-
-pub returns-then-not-holds : goal.returns-then-not-holds
-returns-then-not-holds c e = let z : ◌≡◌ {A = ℕ} 0 1 = cc in absurd (omega arith)
-
 pub renames-requires : goal.renames-requires
 renames-requires c =
     let g = compared (held c.before.before.before) in
@@ -125,9 +116,6 @@ returns-then-refused_as c e p t h =
     let s = given l in
     tells_refused s.args.c s.requires.taken h (fits l) l.load.ensures s.args.map.now s.args.wanted.now (answered-refused m)
     (c.refused_as.ensures.only c.if-refused_as.true)
-
-pub returns-else-refused_as : goal.returns-else-refused_as
-returns-else-refused_as c e = let z : ◌≡◌ {A = ℕ} 0 1 = cc in absurd (omega arith)
 
 -- names are drawn, and the S record is substituted
 pub returns-else-not-holds : goal.returns-else-not-holds

@@ -1,7 +1,5 @@
 -- `replay_sexps::sexps::renames` meets its contract: the S record, its room and the map stand in what is lent of memory. Assumes nothing.
-use mathlib.Core.Path.{◌≡◌}
 use native.Mathlib.Omega.{arith}
-use Prim.Native.Nat.{ℕ}
 use lib.ListN.{length}
 use Rattle.walk.proofs.OnParts.{asks_part, part_gives}
 use Rattle.replay_sexps.proofs.Comparing.{told, word_there}
@@ -13,12 +11,6 @@ substitute-step-requires c =
     let s = known.before.before.before in
     let r = s.requires.2 in
     asks_part s.args.target s.requires.0 (record { fields = r.valid.0; conses = r.valid.1 }) r.there (omega (arith, r.within)) r.map (omega (arith, r.within, r.fits))
-
-pub returns-then-not-same_step : goal.returns-then-not-same_step
-returns-then-not-same_step c e = let z : ◌≡◌ {A = ℕ} 0 1 = cc in absurd (omega arith)
-
-pub returns-then-not-is_word : goal.returns-then-not-is_word
-returns-then-not-is_word c e = let z : ◌≡◌ {A = ℕ} 0 1 = cc in absurd (omega arith)
 
 pub returns : goal.returns
 returns c e t m r =

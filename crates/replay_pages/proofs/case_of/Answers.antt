@@ -1,7 +1,0 @@
--- `replay_pages::case_of` meets its contract. Assumes nothing.
-use Rattle.replay_pages.proofs.PageLaws.{case_parts}
-use Rattle.replay_pages.proofs.case_of.Goals as goal
-
-pub returns : goal.returns
-returns c =
-    case_parts c.args.head.now c.number.ensures.value c.refusing.ensures c.number-2.ensures.value c.place_at.ensures c.number-3.ensures.value
