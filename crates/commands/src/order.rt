@@ -82,7 +82,7 @@ fn names(to: &impl Print, s: &[u8], row: &[u8], rounds: u64) -> io::Result<()>
     requires fact { (k : Kind) × (l : Loc) × (w : Bytes) × (h : Bytes) × (bs : Bindings) × (b : Body) × Let s.now k l w h bs b }
 {
     let v = let_view(s);
-    let count = v.count as usize;
+    let count = usize::from(v.count);
     let mut given = [0usize; NEED_LIMIT];
     let mut bodies = [0usize; BINDING_LIMIT];
     let n = find_names(s, v.first, &mut given, &mut bodies[..count]);
@@ -130,7 +130,7 @@ fn print_ordered(
     let mut seen = 0;
     let mut column = 1;
     for i in row {
-        let index = *i as usize;
+        let index = usize::from(*i);
         if !met(s, given, bodies, index, before) {
             before = seen;
             column += 1;

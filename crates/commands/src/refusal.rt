@@ -100,7 +100,7 @@ pub fn print(to: &impl Print, refusal: Refusal, above: bool, long: bool) -> io::
     let number = refusal.number;
     let words = words_of(number, above, long);
     say::text(to, b"refused ")?;
-    say::number(to, number as u64)?;
+    say::number(to, u64::from(number))?;
     say::text(to, b": ")?;
     say::text(to, text_of(words))?;
     match place_of(words) {

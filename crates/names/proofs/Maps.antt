@@ -3,12 +3,13 @@ use mathlib.Core.Path.{◌≡◌, refl, sym, ap, ◌∙◌}
 use mathlib.Core.Bool.{Bool, true, false}
 use mathlib.Core.List.{[], ◌∷◌, ◌++◌}
 use mathlib.Core.Option.{none, some}
+use native.Mathlib.Nat.{add-sub_cancel_left}
 use native.Mathlib.Omega.{arith}
-use Prim.Native.Nat.{ℕ, ◌+◌, ◌≤◌, ◌<◌}
+use Prim.Native.Nat.{ℕ, ◌+◌, ◌-◌, ◌≤◌, ◌<◌}
 use denote.Ref.{Bor}
 use lib.ListN.{length, take, drop, length-drop}
-use Rattle.names.specs.Maps.{NameMap, lookup, renamed, found_at, Origin, map_bytes, Limited}
-use Rattle.names.specs.Names.{Bytes, name_field, name_limit, name_width, number_of, same}
+use Rattle.names.specs.Maps.{NameMap, lookup, renamed, found_at, Origin, map_bytes}
+use Rattle.names.specs.Names.{Bytes, name_field, name_width, number_of, same}
 use Rattle.names.proofs.Fields.{name_at, name_field_length}
 use Rattle.names.proofs.Places.{at_own}
 
@@ -40,25 +41,12 @@ module _ (m : NameMap) (x : Bytes) where
   unfolding renamed
   renamed_none e = rw (e, renamed)
 
--- and it stays within its limit
-pub renamed_limited : (m : NameMap) → Limited m → (x : Bytes) → length x ≤ name_limit → length (renamed m x) ≤ name_limit
-unfolding lookup renamed Limited
-renamed_limited [] l x h = h
-renamed_limited (e ∷ m) l x h = go (same x e.0) refl (renamed_limited m l.2 x h)
-  where
-    go : (b : Bool) → same x e.0 ≡ b → length (renamed m x) ≤ name_limit → length (renamed (e ∷ m) x) ≤ name_limit
-    go true t r = rw (← renamed_some (e ∷ m) x (lookup_hit x e m t)) l.1
-    go false t r = let q : renamed (e ∷ m) x ≡ renamed m x = rw (lookup_miss x e m t, renamed) in rw q r
-
 -- a search of x in the bytes s of m has come to `at`: what is found from there on is what m has
 pub record Searched (s : Bytes) (at : ℕ) (m : NameMap) (x : Bytes) : Type 0 where
   pub rest : NameMap
   pub is : drop at s ≡ map_bytes rest
   pub finds : lookup rest x ≡ lookup m x
   pub place : at + found_at rest x ≡ found_at m x
-
-pub searched_none : {s : Bytes} {m : NameMap} (x : Bytes) → s ≡ map_bytes m → Searched s 0 m x
-searched_none {s} {m} x e = record { rest = m; is = e; finds = refl; place = omega arith }
 
 pub searched_all : {s : Bytes} {at : ℕ} {m : NameMap} {x : Bytes} → Searched s at m x → length s ≤ at → lookup m x ≡ none
 unfolding lookup map_bytes
@@ -79,7 +67,7 @@ pub record Entry (s : Bytes) (at o n : ℕ) (m : NameMap) (x : Bytes) : Type 0 w
   pub hit : same x (take o (drop (at + name_width) s)) ≡ true → Hit s (at + name_width + o + name_width) n m x
   pub miss : same x (take o (drop (at + name_width) s)) ≡ false → Searched s (at + name_width + o + name_width + n) m x
 
-pub entry : {s : Bytes} {at o n : ℕ} {m : NameMap} {x : Bytes} → Searched s at m x → at < length s → o ≡ number_of (take name_width (drop at s))
+entry : {s : Bytes} {at o n : ℕ} {m : NameMap} {x : Bytes} → Searched s at m x → at < length s → o ≡ number_of (take name_width (drop at s))
     → n ≡ number_of (take name_width (drop (at + name_width + o) s)) → Entry s at o n m x
 unfolding map_bytes
 entry {s} {at} {o} {n} {m} {x} h lt eo en = go h.rest h.is h.finds h.place
@@ -104,6 +92,21 @@ entry {s} {at} {o} {n} {m} {x} h lt eo en = go h.rest h.is h.finds h.place
             place = omega (arith, p, at_miss x e r (rw f.name at t));
           };
         }
+
+-- the same of each map that s is
+pub entries : {s : Bytes} {at o n : ℕ} {x : Bytes} → ((m : NameMap) → s ≡ map_bytes m → Searched s at m x)
+    → at < length s → o ≡ number_of (take name_width (drop at s))
+    → n ≡ number_of (take name_width (drop (at + name_width + o) s)) → (m : NameMap) → s ≡ map_bytes m → Entry s at o n m x
+entries h lt eo en m e = entry (h m e) lt eo en
+
+-- the entry's old name was compared with x, as the bytes from its place up to its end
+module _ {s : Bytes} {at o n : ℕ} {m : NameMap} {x : Bytes} {r : Bool} (v : Entry s at o n m x)
+    (t : r ≡ same x (take (at + name_width + o - (at + name_width)) (drop (at + name_width) s))) where
+  pub entry_hit : r ≡ true → Hit s (at + name_width + o + name_width) n m x
+  entry_hit e = v.hit (sym (rw add-sub_cancel_left at t) ∙ e)
+
+  pub entry_miss : r ≡ false → Searched s (at + name_width + o + name_width + n) m x
+  entry_miss e = v.miss (sym (rw add-sub_cancel_left at t) ∙ e)
 
 -- an answer that is a part of the map, by the entry that was found, or the name, where none was
 module _ {m : NameMap} (name map : Bor Bytes) where

@@ -70,7 +70,7 @@ pub fn number(s: &[u8], at: usize, width: usize) -> usize
 {
     let mut n = 0;
     for byte in &s[at..at + width] {
-        n = 256 * n + *byte as usize;
+        n = 256 * n + usize::from(*byte);
     }
     n
 }

@@ -211,18 +211,18 @@ pub bound_fits : {s : Bytes} {at n : ℕ} {bs : List Binding} → Bound s at n b
 unfolding all_needs
 bound_fits {bs = bs} b top = omega (arith, few_needs (items bs) (all_words (λ c. words (body_of c)) bs), few_all bs b.valid.1, b.there.fits)
 
-pub let_bound : {s : Bytes} {v : LetView} {k : Kind} {l : Loc} {w h : Bytes} {bs : Bindings} {b : Body} → SeesLet s v → Let s k l w h bs b
-    → Bound s v.first v.count (list_of bs) × (v.count ≤ binding_limit)
+pub let_bound : {m : ℕ} {s : Bytes} {v : LetView} {k : Kind} {l : Loc} {w h : Bytes} {bs : Bindings} {b : Body} → m ≡ v.count → SeesLet s v → Let s k l w h bs b
+    → Bound s v.first m (list_of bs) × (m ≤ binding_limit)
 unfolding BodyFields depth lambda_depth
-let_bound {k = k} {l} {w} {h} {bs} {b} x t =
+let_bound {k = k} {l} {w} {h} {bs} {b} c x t =
     let e = x.sees k l w h bs b t.valid t.there in
-    let n : length (list_of bs) ≡ _ = list_count bs ∙ sym e.count in (
+    let n : length (list_of bs) ≡ _ = list_count bs ∙ sym e.count ∙ sym c in (
       record {
         count = n;
         valid = (n, list_valid bs t.valid.0.4 (omega (arith, t.valid.1)) (omega (arith, t.valid.2)));
         there = rw (list_bytes bs) (first_of e.rest);
       },
-      omega (arith, t.valid.0.3, e.count),
+      omega (arith, t.valid.0.3, e.count, c),
     )
 
 -- bindings that were found can be collected

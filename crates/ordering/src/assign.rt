@@ -88,7 +88,7 @@ pub fn toposort_assign_bindings(s: &[u8]) -> Order
     ensures { OrdersLet s.now result }
 {
     let v = let_view(s);
-    let count = v.count as usize;
+    let count = usize::from(v.count);
     let mut row = [0u8; BINDING_LIMIT];
     let mut bodies = [0usize; BINDING_LIMIT];
     let mut starts = [0usize; BINDING_LIMIT + 1];

@@ -51,7 +51,7 @@ fn order_of(counter: u64, s: &[u8], res: &mut [u8]) -> Answer
     ensures { AnswersLet s.now counter res.old (result, res.new) }
 {
     let v = let_view(s);
-    if res.len() < v.count as usize {
+    if res.len() < usize::from(v.count) {
         return refused(placeless(8), counter);
     }
     let o = toposort_assign_bindings(s);

@@ -65,7 +65,8 @@ fn turn(needs: &[u64], starts: &[usize], row: &mut [u8], placed: usize, done: u6
     let mut left = placed;
     'positions: for p in placed..row.len() {
         let i = row[p];
-        for k in starts[i as usize]..starts[i as usize + 1] {
+        let at = usize::from(i);
+        for k in starts[at]..starts[at + 1] {
             if needs[k] & done == 0 {
                 continue 'positions;
             }

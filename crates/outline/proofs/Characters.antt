@@ -86,7 +86,7 @@ spaces_get zero i d lt = absurd (omega arith)
 spaces_get (suc n) zero d lt = refl
 spaces_get (suc n) (suc i) d lt = spaces_get n i d (omega arith)
 
--- what stands on a line from left to right: i is the place in the line, j the one behind the spaces in front
+-- what stands on a line from left to right: i is the place in the line
 module _ (depth : ℕ) (s : Bytes) (n : Option Bytes) (i : ℕ) where
   -- in front are spaces
   pub front_shown : i < 2 * depth → 32 ≡ get_or (line_parts depth (take mark_width s) n) i 32
@@ -96,40 +96,42 @@ module _ (depth : ℕ) (s : Bytes) (n : Option Bytes) (i : ℕ) where
       (get_or-append (spaces (2 * depth)) (take mark_width s ++ (ascii " " ++ shown n)) 32 i (omega (arith, spaces_long (2 * depth)))
       ∙ spaces_get (2 * depth) i 32 lt)
 
-  module _ (j : ℕ) (at : i ≡ 2 * depth + j) (le : mark_width ≤ length s) where
+  module _ (past : 2 * depth ≤ i) (le : mark_width ≤ length s) where
     -- the mark has its bytes
     mark_length : length (take mark_width s) ≡ mark_width
     mark_length = length-take-le mark_width s le
 
     -- behind the spaces
-    past_front : get_or (line_parts depth (take mark_width s) n) i 32 ≡ get_or (take mark_width s ++ (ascii " " ++ shown n)) j 32
+    past_front : get_or (line_parts depth (take mark_width s) n) i 32 ≡ get_or (take mark_width s ++ (ascii " " ++ shown n)) (i - 2 * depth) 32
     unfolding line_parts
     past_front =
-        let e : i ≡ length (spaces (2 * depth)) + j = omega (arith, spaces_long (2 * depth)) in
-        rw e (get_or-append-add (spaces (2 * depth)) (take mark_width s ++ (ascii " " ++ shown n)) j 32)
+        let e : i ≡ length (spaces (2 * depth)) + (i - 2 * depth) = omega (arith, spaces_long (2 * depth)) in
+        ap (λ (k : ℕ). get_or (spaces (2 * depth) ++ (take mark_width s ++ (ascii " " ++ shown n))) k 32) e
+        ∙ get_or-append-add (spaces (2 * depth)) (take mark_width s ++ (ascii " " ++ shown n)) (i - 2 * depth) 32
 
     -- a byte of the mark
-    pub mark_shown : j < mark_width → get_or s j 0 ≡ get_or (line_parts depth (take mark_width s) n) i 32
+    pub mark_shown : i - 2 * depth < mark_width → get_or s (i - 2 * depth) 0 ≡ get_or (line_parts depth (take mark_width s) n) i 32
     mark_shown lt =
+        let j = i - 2 * depth in
         sym
         (past_front ∙ get_or-append (take mark_width s) (ascii " " ++ shown n) 32 j (omega (arith, mark_length)) ∙ get_or-take mark_width s j 32 lt
         ∙ get_any s j 32 0 (omega arith))
 
     -- behind the mark
-    past_mark : (k : ℕ) → j ≡ mark_width + k → get_or (line_parts depth (take mark_width s) n) i 32 ≡ get_or (ascii " " ++ shown n) k 32
+    past_mark : (k : ℕ) → i - 2 * depth ≡ mark_width + k → get_or (line_parts depth (take mark_width s) n) i 32 ≡ get_or (ascii " " ++ shown n) k 32
     past_mark k e =
-        let f : j ≡ length (take mark_width s) + k = omega (arith, mark_length) in
+        let f : i - 2 * depth ≡ length (take mark_width s) + k = omega (arith, mark_length) in
         past_front ∙ rw f (get_or-append-add (take mark_width s) (ascii " " ++ shown n) k 32)
 
     -- a space behind the mark
-    pub gap_shown : j ≡ mark_width → 32 ≡ get_or (line_parts depth (take mark_width s) n) i 32
+    pub gap_shown : i - 2 * depth ≡ mark_width → 32 ≡ get_or (line_parts depth (take mark_width s) n) i 32
     unfolding ascii
     gap_shown e = sym (past_mark 0 (omega arith))
 
     -- then the name
-    pub name_behind : (k : ℕ) → j ≡ mark_width + 1 + k → get_or (shown n) k 32 ≡ get_or (line_parts depth (take mark_width s) n) i 32
+    pub name_behind : mark_width < i - 2 * depth → get_or (shown n) (i - 2 * depth - mark_width - 1) 32 ≡ get_or (line_parts depth (take mark_width s) n) i 32
     unfolding ascii
-    name_behind k e = sym (past_mark (suc k) (omega arith))
+    name_behind lt = sym (past_mark (suc (i - 2 * depth - mark_width - 1)) (omega arith))
 
 -- a text at a width
 padded_get : (l : Bytes) (w i d : ℕ) → i < length l + w → get_or (l ++ spaces w) i d ≡ get_or l i 32

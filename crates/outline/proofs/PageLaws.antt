@@ -27,21 +27,21 @@ use Rattle.outline.proofs.Listed.{StandsIn, stands_small, form_stands, listing_c
 use Rattle.outline.proofs.Listings.{index_bytes_length}
 use Rattle.outline.proofs.NamePlaces.{mark_inside}
 
--- a list before, at and behind its k-th element
+-- a list in front of, at and behind its k-th element
 record SplitAt {A : Type 0} (ls : List A) (k : ℕ) : Type 0 where
-  before : List A
+  front : List A
   here : A
   rest : List A
-  is : ls ≡ before ++ here ∷ rest
-  count : length before ≡ k
+  is : ls ≡ front ++ here ∷ rest
+  count : length front ≡ k
 
 -- every place that it has
 split_at_element : {A : Type 0} (ls : List A) (k : ℕ) → k < length ls → SplitAt ls k
 split_at_element [] k lt = absurd (omega arith)
-split_at_element (x ∷ xs) zero lt = record { before = []; here = x; rest = xs; is = refl; count = refl }
+split_at_element (x ∷ xs) zero lt = record { front = []; here = x; rest = xs; is = refl; count = refl }
 split_at_element {A} (x ∷ xs) (suc k) lt =
     let p = split_at_element xs k (omega arith) in
-    record { before = x ∷ p.before; here = p.here; rest = p.rest; is = ap (λ (zs : List A). x ∷ zs) p.is; count = ap suc p.count }
+    record { front = x ∷ p.front; here = p.here; rest = p.rest; is = ap (λ (zs : List A). x ∷ zs) p.is; count = ap suc p.count }
 
 -- the listing of a form
 abbrev form_listing : Form → List (Entry × Outline)
@@ -75,11 +75,11 @@ module _ {input entries : Bytes} {n : ℕ} {f : Form} (i : Indexed input entries
       go p =
           let l = p.here in
           let each : Each (StandsIn input) (form_listing f) = rw i.bytes (form_stands f i.fields) in
-          let st : StandsIn input l = each_here (StandsIn input) p.before l p.rest (subst (λ (ls : List (Entry × Outline)). Each (StandsIn input) ls) p.is each) in
-          let at = index_at p.before l p.rest (subst (λ (ls : List (Entry × Outline)). At entries 0 (index_bytes ls)) p.is i.index) in
+          let st : StandsIn input l = each_here (StandsIn input) p.front l p.rest (subst (λ (ls : List (Entry × Outline)). Each (StandsIn input) ls) p.is each) in
+          let at = index_at p.front l p.rest (subst (λ (ls : List (Entry × Outline)). At entries 0 (index_bytes ls)) p.is i.index) in
           let same : e ≡ l.0 = r l.0 (stands_small st short) (at_place (entry_width * k) (ap (λ (m : ℕ). entry_width * m) p.count) at) in
           let next : take (line_width + 1) (drop ((line_width + 1) * k) (page f)) ≡ line l =
-          subst (λ (m : ℕ). take (line_width + 1) (drop ((line_width + 1) * m) (page f)) ≡ line l) p.count (line_behind f p.before l p.rest p.is) in
+          subst (λ (m : ℕ). take (line_width + 1) (drop ((line_width + 1) * m) (page f)) ≡ line l) p.count (line_behind f p.front l p.rest p.is) in
           rw same (record { outline = l.1; stands = st; next = next })
 
   -- all lines are the page
@@ -89,6 +89,10 @@ module _ {input entries : Bytes} {n : ℕ} {f : Form} (i : Indexed input entries
       filled_written (rw e at h)
 
 module _ {input : Bytes} {f : Form} {k : ℕ} {e : Entry} (r : EntryRecord input f k e) where
+  -- it stands in the input
+  pub record_inside : e.around.offset ≤ length input
+  record_inside = omega (arith, r.stands.there.fits)
+
   -- what the line is written from and to
   pub record_asks : (out : Bytes) → length input ≤ most_longest → (line_width + 1) * k + (line_width + 1) ≤ length out
       → LineAsks (part input e.around.offset (length input - e.around.offset)) e.around.depth (part out ((line_width + 1) * k) (length out - (line_width + 1) * k))

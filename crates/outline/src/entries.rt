@@ -16,7 +16,7 @@ pub fn put_entry(mem: &mut [u8], e: Entry)
     put_number(mem, 0, PLACE_WIDTH, a.offset);
     put_number(mem, PLACE_WIDTH, PLACE_WIDTH, a.depth);
     put_number(mem, 2 * PLACE_WIDTH, PLACE_WIDTH, e.len);
-    mem[3 * PLACE_WIDTH] = a.inside as u8;
+    mem[3 * PLACE_WIDTH] = u8::from(a.inside);
 }
 
 // The entry of so many before it.

@@ -79,7 +79,7 @@ fn more_levels(kind: u8, n: u8) -> usize
     if n == 0 {
         return 0;
     }
-    n as usize - 1
+    usize::from(n) - 1
 }
 
 // The context among the bindings of a let.

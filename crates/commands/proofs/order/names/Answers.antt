@@ -1,6 +1,6 @@
 -- `commands::order::names` is safe and ends: an assign stands in s, so its names can be listed. Assumes nothing.
 use mathlib.Core.List.{List}
-use mathlib.Core.Path.{sym}
+use mathlib.Core.Path.{◌≡◌, sym}
 use native.Mathlib.Omega.{arith}
 use Prim.Native.Nat.{ℕ, ◌≤◌}
 use lib.ListN.{length, take}
@@ -17,41 +17,41 @@ use Rattle.ordering.proofs.Collected.{provisions_given}
 use Rattle.commands.proofs.order.names.Goals as goal
 
 -- what was listed, where the places of the bodies take the front of an array xs
-listed : {s : Bytes} {v : LetView} {k : Kind} {l : Loc} {w h : Bytes} {bs : Bindings} {b : Body} {given bodies : List ℕ} {n : ℕ} (xs : List ℕ)
-    → SeesLet s v → Let s k l w h bs b → binding_limit ≤ length xs → FindsAllNames s v.first (length (take v.count xs)) given bodies n
+listed : {s : Bytes} {v : LetView} {k : Kind} {l : Loc} {w h : Bytes} {bs : Bindings} {b : Body} {given bodies : List ℕ} {m n : ℕ} (xs : List ℕ)
+    → m ≡ v.count → SeesLet s v → Let s k l w h bs b → binding_limit ≤ length xs → FindsAllNames s v.first (length (take m xs)) given bodies n
     → (n ≤ length given) × Given s (take n given)
-listed {v = v} xs sees at room finds =
-    let w = let_bound sees at in
-    let f = finds _ (bound_of _ (sym (length-take-le v.count xs (omega (arith, w.1)))) w.0) in
+listed {m = m} xs count sees at room finds =
+    let w = let_bound count sees at in
+    let f = finds _ (bound_of _ (sym (length-take-le m xs (omega (arith, w.1)))) w.0) in
     (f.few, provisions_given _ _ _ f.provisions (omega (arith, w.0.count, w.1)))
 
 pub slice_bounds-bodies-end : goal.slice_bounds-bodies-end
-slice_bounds-bodies-end g c = (let_bound c.let_view-v.ensures c.requires.fact.6).1
+slice_bounds-bodies-end g c = (let_bound c.from-count.ensures c.let_view-v.ensures c.requires.fact.6).1
 
 pub slice_bounds-find_names-end-2 : goal.slice_bounds-find_names-end-2
-slice_bounds-find_names-end-2 g c = sym (length-take-le _ _ (let_bound c.let_view-v.ensures c.requires.fact.6).1)
+slice_bounds-find_names-end-2 g c = sym (length-take-le _ _ (let_bound c.from-count.ensures c.let_view-v.ensures c.requires.fact.6).1)
 
 pub find_names-n-requires-clause-bound : goal.find_names-n-requires-clause-bound
 find_names-n-requires-clause-bound g c =
-    let w = let_bound c.let_view-v.ensures c.requires.fact.6 in
+    let w = let_bound c.from-count.ensures c.let_view-v.ensures c.requires.fact.6 in
     (_, bound_of _ (sym (length-take-le _ _ w.1)) w.0)
 
 pub slice_bounds-given-end : goal.slice_bounds-given-end
-slice_bounds-given-end g c = (listed _ c.let_view-v.ensures c.requires.fact.6 (omega arith) c.find_names-n.ensures).0
+slice_bounds-given-end g c = (listed _ c.from-count.ensures c.let_view-v.ensures c.requires.fact.6 (omega arith) c.find_names-n.ensures).0
 
 pub slice_bounds-print_stuck-end : goal.slice_bounds-print_stuck-end
 slice_bounds-print_stuck-end g c =
-    sym (length-take-le _ _ (listed _ c.let_view-v.ensures c.requires.fact.6 (omega arith) c.find_names-n.ensures).0)
+    sym (length-take-le _ _ (listed _ c.from-count.ensures c.let_view-v.ensures c.requires.fact.6 (omega arith) c.find_names-n.ensures).0)
 
 pub print_stuck-requires : goal.print_stuck-requires
-print_stuck-requires g c = (listed _ c.let_view-v.ensures c.requires.fact.6 (omega arith) c.find_names-n.ensures).1
+print_stuck-requires g c = (listed _ c.from-count.ensures c.let_view-v.ensures c.requires.fact.6 (omega arith) c.find_names-n.ensures).1
 
 pub slice_bounds-given-end-else-rounds-eq0 : goal.slice_bounds-given-end-else-rounds-eq0
-slice_bounds-given-end-else-rounds-eq0 g c = (listed _ c.let_view-v.ensures c.requires.fact.6 (omega arith) c.find_names-n.ensures).0
+slice_bounds-given-end-else-rounds-eq0 g c = (listed _ c.from-count.ensures c.let_view-v.ensures c.requires.fact.6 (omega arith) c.find_names-n.ensures).0
 
 pub slice_bounds-print_ordered-end : goal.slice_bounds-print_ordered-end
 slice_bounds-print_ordered-end g c =
-    sym (length-take-le _ _ (listed _ c.let_view-v.ensures c.requires.fact.6 (omega arith) c.find_names-n.ensures).0)
+    sym (length-take-le _ _ (listed _ c.from-count.ensures c.let_view-v.ensures c.requires.fact.6 (omega arith) c.find_names-n.ensures).0)
 
 pub print_ordered-requires : goal.print_ordered-requires
-print_ordered-requires g c = (listed _ c.let_view-v.ensures c.requires.fact.6 (omega arith) c.find_names-n.ensures).1
+print_ordered-requires g c = (listed _ c.from-count.ensures c.let_view-v.ensures c.requires.fact.6 (omega arith) c.find_names-n.ensures).1

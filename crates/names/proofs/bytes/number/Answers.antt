@@ -1,5 +1,5 @@
 -- `names::bytes::number` meets its contract. Assumes nothing.
-use Rattle.std.proofs.Common.{◌≡◌, ◌+◌, ◌*◌, ◌^◌, ◌≤◌, refl, take, drop, arith}
+use Rattle.std.proofs.Common.{refl, arith}
 use native.Mathlib.Nat.{pow-suc}
 use Prim.Native.Nat.{suc}
 use Rattle.names.specs.Names.{number_of, number_after}
@@ -15,4 +15,4 @@ overflow_mul-n c =
     let i = c.loop-byte.byte-index in omega (arith, c.loop-byte.invariant.1, pow-suc 256 i, number_fits (suc i) (omega arith))
 
 pub loop-byte-preserved : goal.loop-byte-preserved
-loop-byte-preserved c = number_read c.args.s.now c.args.at c.args.width c.requires.1 (λ j. (c.type_inv.s j).fits) c.loop-byte.invariant (omega arith)
+loop-byte-preserved c = rw c.from.ensures (number_read c.args.s.now c.args.at c.args.width c.requires.1 (λ j. (c.type_inv.s j).fits) c.loop-byte.invariant (omega arith))

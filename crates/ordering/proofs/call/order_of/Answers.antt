@@ -5,8 +5,8 @@ use Rattle.names.specs.Refusals.{place_at}
 use Rattle.ordering.proofs.OrderLaws.{order_short, let_count, loc_fits, answer_stuck, answer_found}
 use Rattle.ordering.proofs.call.order_of.Goals as goal
 
-pub returns-then-res-v : goal.returns-then-res-v
-returns-then-res-v c = λ k l w h bs b t.
+pub returns-then-res-from : goal.returns-then-res-from
+returns-then-res-from c = λ k l w h bs b t.
     c.refused.ensures _ ∙ rw c.placeless.ensures (sym (order_short _ _ k l w h bs b (omega (arith, let_count c.let_view-v.ensures t))))
 
 pub number-requires : goal.number-requires

@@ -12,16 +12,13 @@ use Rattle.ordering.proofs.sort.turn.Goals as goal
 pub positions-init : goal.positions-init
 positions-init c = begins _ _ _ _ _ c.requires.starts.1 c.requires.indices_below
 
-pub overflow_cast-k : goal.overflow_cast-k
-overflow_cast-k c = omega (arith, c.positions.invariant.below c.positions.p (omega arith))
-
 pub loop-k-init : goal.loop-k-init
 loop-k-init c =
     let w = c.positions in
     let i = get_or w.row w.p 0 in
     let s = c.requires.starts.0 in
     let lt : i < length w.row = w.invariant.below w.p (omega arith) in
-    (refl, lt, omega arith, s.within (i + 1) (omega arith), λ bs g. simp sub_self (none_seen bs _ i))
+    rw c.from-at.ensures (refl, lt, omega arith, s.within (i + 1) (omega arith), refl, λ bs g. simp sub_self (none_seen bs _ i))
 
 pub positions-preserved-then-needs-k-eq0 : goal.positions-preserved-then-needs-k-eq0
 positions-preserved-then-needs-k-eq0 c =
@@ -29,7 +26,7 @@ positions-preserved-then-needs-k-eq0 c =
     let w = c.positions in
     rw l.invariant.0
     (stays _ _ _ _ _ w.invariant (omega arith)
-    (λ bs g. l.invariant.4 bs g ∙ not_met g (get_or w.row w.p 0) l.k (omega (arith, g.size)) (omega arith) (omega arith) c.if-needs-k-eq0.true))
+    (λ bs g. l.invariant.5 bs g ∙ not_met g (get_or w.row w.p 0) l.k (omega (arith, g.size)) (omega arith) (omega arith) c.if-needs-k-eq0.true))
 
 pub loop-k-preserved : goal.loop-k-preserved
 loop-k-preserved c =
@@ -39,7 +36,8 @@ loop-k-preserved c =
       l.invariant.1,
       omega arith,
       l.invariant.3,
-      λ bs g. l.invariant.4 bs g ∙ one_met g (get_or w.row w.p 0) l.k (omega (arith, g.size)) (omega arith) (omega arith) c.if-needs-k-eq0.false,
+      l.invariant.4,
+      λ bs g. l.invariant.5 bs g ∙ one_met g (get_or w.row w.p 0) l.k (omega (arith, g.size)) (omega arith) (omega arith) c.if-needs-k-eq0.false,
     )
 
 pub positions-preserved : goal.positions-preserved
@@ -48,7 +46,7 @@ positions-preserved c =
     let w = c.positions in
     rw l.invariant.0
     (places _ _ _ _ _ w.invariant (omega arith)
-    (λ bs g. l.invariant.4 bs g ∙ all_met g (get_or w.row w.p 0) l.k (omega (arith, g.size)) (omega arith) (omega arith)))
+    (λ bs g. l.invariant.5 bs g ∙ all_met g (get_or w.row w.p 0) l.k (omega (arith, g.size)) (omega arith) (omega arith)))
 
 pub returns : goal.returns
 returns c =

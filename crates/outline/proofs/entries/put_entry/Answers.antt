@@ -14,4 +14,5 @@ byte_flag true = refl
 
 pub returns : goal.returns
 returns c =
-    rw (byte_flag c.args.e.around.inside) (entry_filled c.args.e c.requires.0 c.put_number.ensures c.put_number-2.ensures c.put_number-3.ensures)
+    rw (c.from.ensures, byte_flag c.args.e.around.inside)
+    (entry_filled c.args.e c.requires.0 c.put_number.ensures c.put_number-2.ensures c.put_number-3.ensures)

@@ -10,4 +10,4 @@ pub returns-then-n-eq0 : goal.returns-then-n-eq0
 returns-then-n-eq0 c = omega (arith, more_sequential c.args.kind c.args.n c.if-kind-ne1.false)
 
 pub returns : goal.returns
-returns c = more_sequential _ _ c.if-kind-ne1.false
+returns c = rw c.from.ensures (more_sequential _ _ c.if-kind-ne1.false)
