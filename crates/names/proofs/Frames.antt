@@ -1,5 +1,5 @@
 -- Which bytes a change leaves alone, and what stands where bytes were written. Assumes nothing.
-use mathlib.Core.Logic.{⊎_elim, inl}
+use mathlib.Core.Logic.{inl}
 use mathlib.Core.Path.{◌≡◌, refl, sym, ap, ◌∙◌}
 use mathlib.Core.List.{[], ◌∷◌}
 use native.Mathlib.Nat.{add-zero}
@@ -83,15 +83,6 @@ filled_more {xs} {ys} {q} {vs} {i} v f lt lv e =
 -- bytes that go to a later place which they do not reach
 pub movable_up : {xs : Bytes} {p q n : ℕ} → p + n ≤ q → q + n ≤ length xs → Movable xs p q n
 movable_up h l = record { source = omega arith; target = l; safe = inl h }
-
--- one byte more of the run at p is copied: it stands there still as it was
-pub copied_more : {xs ys : Bytes} {p q n i : ℕ} → Movable xs p q n → Filled xs ys q (drop p xs) i → i < n
-    → Filled xs (set ys (q + i) (get_or ys (p + i) 0)) q (drop p xs) (i + 1)
-copied_more {xs} {ys} {p} {q} {n} {i} m f lt =
-    filled_more _ f (omega (arith, f.frame.size)) (omega (arith, length-drop p xs)) (kept ∙ sym (get_or-drop p xs i 0))
-  where
-    kept : get_or ys (p + i) 0 ≡ get_or xs (p + i) 0
-    kept = ⊎_elim (λ h. get_below f.frame (p + i) (omega arith)) (λ h. get_above f.frame (p + i) (omega arith)) m.safe
 
 -- one byte written
 pub filled_set : (xs : Bytes) (i v : ℕ) → i < length xs → Filled xs (set xs i v) i (v ∷ []) 1

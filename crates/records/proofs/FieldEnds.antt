@@ -10,9 +10,8 @@ use Rattle.names.specs.Segments.{At}
 use Rattle.names.proofs.Places.{at_left}
 use Rattle.records.specs.Records.{byte, loc_width, Pattern, Name, Complex, pattern_field}
 use Rattle.records.specs.Valid.{ValidKeyword, ValidHint, ValidPattern}
-use Rattle.records.specs.Views.{SeesName, SeesTagged, PatternAt}
+use Rattle.records.specs.Views.{SeesTagged, PatternAt}
 use Rattle.records.specs.Parts.{fixed_part, counted_part, optional_part, name_part, keyword_part, hint_part, sexp_part, pattern_part, Past}
-use Rattle.records.specs.declared.NameView.{NameView}
 use Rattle.records.specs.declared.TaggedView.{TaggedView}
 use Rattle.records.proofs.Parts.{past_fewer, past_then}
 use Rattle.records.proofs.Views.{ByteAt, byte_length, tag_is}
@@ -30,9 +29,6 @@ module _ {s : Bytes} (at w : ℕ) where
 
   pub counted_past : {k : ℕ} → k ≡ number_of (take w (drop at s)) → at + w + k ≤ length s → Past (counted_part w) s at (at + w + k)
   counted_past e h = record { within = h; onward = omega arith; past = λ x v a. omega (arith, e, counted_ends x v a) }
-
-pub name_past : {s : Bytes} {at : ℕ} {v : NameView} → SeesName s at v → Past name_part s at v.end
-name_past h = record { within = h.within; onward = omega (arith, h.onward, h.forward); past = λ n f a. (h.sees n f a).past }
 
 -- a byte, with an L behind it from `least` on: none, and one
 module _ {s : Bytes} {at next tag least : ℕ} (b : ByteAt s at tag) (x : Past (fixed_part 1) s at next) where

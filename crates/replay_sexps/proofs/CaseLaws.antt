@@ -1,4 +1,5 @@
 -- The two S records of a form, memory after the names are drawn, and what a case then tells. Assumes nothing.
+use mathlib.Core.Bool.{true}
 use mathlib.Core.Path.{◌≡◌, refl, ap, sym, subst, ◌∙◌}
 use mathlib.Core.List.{List, []}
 use native.Mathlib.Omega.{arith}
@@ -17,6 +18,7 @@ use Rattle.names.proofs.Places.{at_from_take, at_place, at_whole}
 use Rattle.records.specs.Limits.{cons_limit}
 use Rattle.records.specs.Opened.{Opened, opened, closed, open_input}
 use Rattle.records.specs.Records.{Loc, Sexp, Body, BL, BQ, BV, BC, BM, BF, []ʰ, ◌∷ʰ◌, Form, CF, sexp_bytes, body_bytes, helpers_bytes, helpers_count, form_bytes, record_bytes}
+use Rattle.records.specs.declared.Step.{Step}
 use Rattle.records.specs.Scan.{mark_index, body_marks, opening_of, wanted_reader}
 use Rattle.records.specs.Valid.{AreBytes, SexpFields, cons_depth, BodyFields, FormFields, ValidForm}
 use Rattle.std.specs.Prelude.{Ok}
@@ -27,12 +29,17 @@ use Rattle.records.specs.Views.{SeesForm, SeesValue}
 use Rattle.records.specs.declared.FormView.{FormView}
 use Rattle.records.proofs.AnySexp.{mark_of}
 use Rattle.records.proofs.Views.{first_of, rest_of}
-use Rattle.walk.specs.Arena.{MapAt}
-use Rattle.walk.specs.DrawnMaps.{Roomy, InventsSexp}
+use Rattle.walk.specs.Arena.{MapAt, Substitutes, fitting}
+use Rattle.walk.specs.DrawnMaps.{Roomy, Drawable, InventsFrom, InventsSexp}
 use Rattle.walk.specs.declared.Growth.{Growth}
+use Rattle.walk.proofs.InventSexps.{roomy_part, moved, invents_part}
 use Rattle.walk.proofs.MapLaws.{no_map}
-use Rattle.replay_sexps.specs.Cases.{Taken, FormIn, SexpsIn, Ready, Holds, Renamed, TellsDrawn, AsTold, CaseForm}
+use Rattle.walk.proofs.OnParts.{from, rejoin, part_gives}
+use Rattle.replay_sexps.specs.Cases.{Taken, FormIn, SexpsIn, Ready, Holds, due_step, DueGrowth, ruled, Renamed, Tells, TellsDrawn, AsTold, CaseForm}
+use Rattle.replays.proofs.Deciding.{decides_same}
+use Rattle.replay_sexps.proofs.Comparing.{told}
 use Rattle.replay_sexps.specs.declared.sexps.Case.{Case}
+use Rattle.std.specs.declared.result.Result.{Result}
 use Rattle.std.specs.declared.result.Result.TheVariants.{Ok, Err}
 
 -- an input that is accepted is a form
@@ -127,18 +134,34 @@ same_map {mem} map h e z =
     sym h.there ∙ ap (λ (k : ℕ). drop (length mem - k) mem) e ∙ sym all ∙ z.there
 
 -- the input of a case stands at the front of memory
-module _ {input mem : Bytes} {a b : ℕ} {p t : Sexp} (c : Case) (k : Taken input c.counter) (h : SexpsIn input a b p t) (fits : 4 * length input + c.room ≤ length mem) (front : At mem 0 input) where
+module _ {input mem : Bytes} {a b : ℕ} {p t : Sexp} (c : Case) (k : Taken input c.counter) (h : SexpsIn input a b p t)
+    (fits : 4 * length input + c.room ≤ length mem) (front : At mem 0 input) where
   in_memory : {i : ℕ} {bs : Bytes} → At input i bs → At mem i bs
   in_memory z = at_from_take (length input) (rw front.there z)
 
-  -- what Invent asks
-  pub roomy : Roomy p mem a 0 c.counter
-  roomy = record { fields = h.pattern_fields; there = in_memory h.pattern; fits = omega (arith, h.pattern.fits); counts = omega (arith, h.pattern.fits, k.short, k.counts) }
+  roomy : Roomy p mem a 0 c.counter
+  roomy =
+      record {
+        fields = h.pattern_fields;
+        there = in_memory h.pattern;
+        fits = omega (arith, h.pattern.fits);
+        counts = omega (arith, h.pattern.fits, k.short, k.counts);
+      }
+
+  -- what Invent asks of memory from the pattern on
+  pub drawable : Drawable (from mem a) 0 c.counter cons_limit
+  drawable = record { t = p; room = roomy_part roomy; deep = h.pattern_deep; m = []; map_at = no_map }
+
+  -- what it answers, said of all memory
+  drawn : {y : Bytes} {r : Result Growth Refusal} → InventsSexp (from mem a) y 0 0 c.counter r
+      → InventsFrom mem (rejoin mem a y) a 0 c.counter p [] (moved a r)
+  drawn {y} {r} i = invents_part mem a y r i p roomy [] no_map
 
   -- the map that it leaves
-  pub ready : {new : Bytes} {g : Growth} → InventsSexp mem new a 0 c.counter (Ok g) → (m : NameMap) × Ready new (length input) b g.len c.room t m
-  ready {g = g} i =
-      let d = i p roomy [] no_map in
+  pub ready : {y : Bytes} {g : Growth} → InventsSexp (from mem a) y 0 0 c.counter (Ok g)
+      → (m : NameMap) × Ready (rejoin mem a y) (length input) b g.len c.room t m
+  ready i =
+      let d = drawn i in
       let within = h.pattern.fits in
       let most = d.draws.at_most in (
         d.draws.value,
@@ -152,17 +175,34 @@ module _ {input mem : Bytes} {a b : ℕ} {p t : Sexp} (c : Case) (k : Taken inpu
       )
 
   -- a case tells what is drawn and then substituted
-  pub tells_drawn : (map wanted : Bytes) {new : Bytes} {g : Growth} → InventsSexp mem new a 0 c.counter (Ok g) → c.invented ≡ 0
-      → g.counter ≡ c.after → g.len ≡ length map → Holds new input (length input) map → Renamed c new (length input) b g.len wanted → AsTold c map wanted p t
+  pub tells_drawn : (map wanted : Bytes) {y : Bytes} {g : Growth} {end : ℕ}
+      → InventsSexp (from mem a) y 0 0 c.counter (Ok g) → c.invented ≡ 0 → DueGrowth c.after a end (length map) g
+      → Holds (rejoin mem a y) input (length input) map → Renamed c (rejoin mem a y) (length input) b g.len wanted
+      → AsTold c map wanted p t
   unfolding ready
-  tells_drawn map wanted i z e l held r =
-      let d = i p roomy [] no_map in
+  tells_drawn map wanted i z due held r =
+      let d = drawn i in
       let w = ready i in
+      let e = ap (λ (x : Growth). x.counter) due.is in
+      let l = ap (λ (x : Growth). x.len) due.is in
       subst (TellsDrawn c map wanted t) (sym (d.draws.runs 0)) (z, e, same_map map d.draws.map_at l held.end, r t w.0 w.1)
 
   -- a case tells that drawing is refused
-  pub tells_refused : (map wanted : Bytes) {new : Bytes} {r : Refusal} → InventsSexp mem new a 0 c.counter (Err r) → r ≡ placeless c.invented
-      → AsTold c map wanted p t
+  pub tells_refused : (map wanted : Bytes) {y : Bytes} {r : Refusal} → InventsSexp (from mem a) y 0 0 c.counter (Err r)
+      → r ≡ placeless c.invented → AsTold c map wanted p t
   tells_refused map wanted i e =
-      let d = i p roomy [] no_map in
+      let d = drawn i in
       subst (TellsDrawn c map wanted t) (sym (d.draws.runs 0)) (sym d.draws.is ∙ e)
+
+-- a case tells what its rule answers of the S record, from its place on
+pub tells_renamed : (c : Case) (wanted : Bytes) {mem y : Bytes} {n at len : ℕ} {t : Sexp} {m : NameMap}
+    {step : Result Step Refusal} → Ready mem n at len c.room t m
+    → Substitutes (ruled c.rule) (from mem at) y
+    (record { free = n - at; map = len; f = c.room; depth = cons_limit; counter = c.after }) step
+    → step ≡ due_step c.substituted (n - at) (length wanted) c.after
+    → true ≡ same (take (length wanted) (drop n (rejoin mem at y))) wanted
+    → Tells c.substituted c.after wanted (fitting sexp_bytes c.room c.after (ruled c.rule m t))
+tells_renamed c wanted {mem} {y} {n} {at} {t = t} r s due there =
+    let w = r.within in
+    let g = part_gives at (omega (arith, r.fits)) s n (omega arith) r.map t r.there (omega arith) r.valid.0 in
+    told c.substituted (n - at) c.after n wanted (rejoin mem at y) g due ((decides_same _ _).only (sym there))

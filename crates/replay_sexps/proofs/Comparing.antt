@@ -1,5 +1,5 @@
 -- What the tests of a case decide: what stands at a place, a step and how far names are drawn. Assumes nothing.
-use mathlib.Core.Bool.{Bool, true}
+use mathlib.Core.Bool.{Bool}
 use mathlib.Core.Path.{◌≡◌, refl, sym, ap, ◌∙◌}
 use native.Mathlib.Omega.{arith}
 use Prim.Native.Nat.{ℕ, zero, suc, ◌-◌, ◌≤◌}
@@ -66,7 +66,3 @@ told number read after n wanted mem (gave u c e s at) d w =
     rw e (done_number read (length wanted) after number s d, p.2, sym at.there ∙ ap (λ (k : ℕ). take k (drop n mem)) p.1 ∙ w)
 told number read after n wanted mem (refused k e s) d w =
     rw e (refused_number read (length wanted) after number s d, refused_is read (length wanted) after number s d)
-
--- the word that a test found
-pub word_there : {t : Bool} (xs bs : Bytes) → t ≡ same xs bs → t ≡ true → xs ≡ bs
-word_there xs bs e is = (decides_same xs bs).only (sym e ∙ is)

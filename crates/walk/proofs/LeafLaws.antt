@@ -154,9 +154,6 @@ renames_value = renames_behind value
 mark_parts : {x : WithMark} → ValidWithMark x → (u : Sexp) → Headed sexp_bytes with_mark_bytes x.0 mark_width u (x.0, u)
 mark_parts v u = record { width = v.mark; bytes = refl }
 
-pub mark_low : {mem : Bytes} {t : Task} → Asks with_mark_bytes ValidWithMark mem t → mark_width ≤ t.free
-mark_low p = omega (arith, whole (mark_parts p.good p.tree.1), p.below)
-
 pub mark_no_room : {mem : Bytes} {t : Task} {r : Result Step Refusal} → r ≡ Err over_long → t.f < mark_width → RenamesWithMark mem mem t r
 mark_no_room {t = t} is lt =
     record {

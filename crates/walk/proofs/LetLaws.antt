@@ -29,12 +29,6 @@ use Rattle.walk.proofs.LetHeads.{binding_is, head_length, own_length, with_own}
 use Rattle.walk.proofs.OnParts.{from, rejoin}
 use Rattle.walk.proofs.Sizes.{positive, some_level, dbl_add, dbl_twice, dbl_least, depth_list_of}
 
--- what a parallel let holds at the end of memory
-pub aside_one : (F n : ℕ) → n ≡ 1 → 4 * F ≡ let_aside F n
-aside_one F zero e = absurd (omega arith)
-aside_one F (suc zero) e = refl
-aside_one F (suc (suc n)) e = absurd (omega arith)
-
 pub aside_other : (F n : ℕ) → (n ≡ 1 → ⊥) → 5 * F ≡ let_aside F n
 aside_other F zero e = refl
 aside_other F (suc zero) e = absurd (e refl)

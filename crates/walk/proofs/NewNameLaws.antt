@@ -3,7 +3,7 @@ use mathlib.Core.Path.{◌≡◌, refl, sym, ap, subst, ◌∙◌}
 use mathlib.Core.Bool.{Bool}
 use mathlib.Core.List.{[]}
 use native.Mathlib.Omega.{arith}
-use Prim.Native.Nat.{ℕ, zero, suc, ◌+◌, ◌*◌, ◌-◌, ◌≤◌, ◌<◌}
+use Prim.Native.Nat.{ℕ, ◌+◌, ◌*◌, ◌-◌, ◌≤◌, ◌<◌}
 use lib.ListN.{length}
 use Rattle.names.specs.Maps.{NameMap}
 use Rattle.names.specs.Names.{Bytes}
@@ -19,7 +19,7 @@ use Rattle.records.proofs.StepAnswers.{unmade}
 use Rattle.walk.specs.Arena.{Substitutes, MapAt, Asks, Held, outcome}
 use Rattle.walk.specs.Invent.{invent_new_names_sexp, rename_in_cons_step}
 use Rattle.walk.specs.DrawnMaps.{Roomy, Drawable, InventsSexp, InventsFrom, map_growth}
-use Rattle.walk.specs.NewNames.{names_task, beside, PutsNames, ArgsReady, ArgsDrawn, args_drew, args_long, args_refused, DrawsArgs, added}
+use Rattle.walk.specs.NewNames.{names_task, beside, PutsNames, ArgsReady, ArgsDrawn, args_drew, args_long, args_refused, DrawsArgs}
 use Rattle.walk.specs.RenameInCons.{rename_in_cons}
 use Rattle.walk.specs.Steps.{M, ◌>>=◌, over_long, child, sexp_size}
 use Rattle.walk.specs.declared.Drawn.{Drawn as Answer}
@@ -36,15 +36,6 @@ use Rattle.std.specs.declared.result.Result.{Result}
 use Rattle.std.specs.declared.result.Result.TheVariants.{Ok, Err}
 use Rattle.walk.specs.RuleAnswers.{drawn_of}
 use Rattle.walk.proofs.RuleAnswers.{drawn_same}
-
--- what a pattern adds to the sum, by its first byte
-pub none_added : (k w : ℕ) → k ≡ 0 → 0 ≡ added k w
-none_added zero w e = refl
-none_added (suc k) w e = absurd (omega arith)
-
-pub some_added : (k w : ℕ) → (k ≡ 0 → ⊥) → w - 1 ≡ added k w
-some_added zero w n = absurd (n refl)
-some_added (suc k) w n = refl
 
 module _ {old : Bytes} {free f c : ℕ} (p : ArgsReady old free f c) where
   -- Invent has its room

@@ -24,10 +24,6 @@ from xs a = part xs a (length xs - a)
 abbrev pub rejoin : Bytes → ℕ → Bytes → Bytes
 rejoin xs a ys = back xs a (length xs - a) ys
 
--- a tree of a kind is one of a wider kind
-pub asks_as : {A : Type 0} {bytes : A → Bytes} {P Q : A → Type 0} {mem : Bytes} {t : Task} → ((a : A) → P a → Q a) → Asks bytes P mem t → Asks bytes Q mem t
-asks_as h p = record { tree = p.tree; good = h p.tree p.good; there = p.there; below = p.below; m = p.m; map = p.map; room = p.room }
-
 -- what is asked of a tree that stands at a
 pub asks_part : {A : Type 0} {bytes : A → Bytes} {Good : A → Type 0} {xs : Bytes} {t : Task} {m : NameMap} (a : ℕ) (x : A) → Good x → At xs a (bytes x)
     → length (bytes x) ≤ t.free → MapAt xs t.map m → a + t.free + t.f + t.map ≤ length xs → Asks bytes Good (from xs a) t

@@ -13,7 +13,7 @@ use Rattle.records.specs.Records.{Sexp, sexp_bytes}
 use Rattle.records.specs.Valid.{SexpFields}
 use Rattle.records.specs.declared.Step.{Step}
 use Rattle.walk.specs.Arena.{MapAt, Asks, Held, fitting, Substitutes}
-use Rattle.walk.specs.Plans.{substitution, GoesByParts, Quoted, OnlyElement, Planned, keeps, renames, quotes, goes_alone, goes_on, Plans, PairAtStart}
+use Rattle.walk.specs.Plans.{substitution, GoesByParts, Quoted, OnlyElement, Planned, keeps, renames, quotes, goes_alone, goes_on, Plans}
 use Rattle.walk.specs.RenameInCons.{rename_atom}
 use Rattle.walk.specs.declared.Plan.{Plan}
 use Rattle.walk.specs.declared.Plan.TheVariants.{Kept, ByMap, Requoted, Alone, Parts}
@@ -43,9 +43,6 @@ plan_says rule {s} {p} x t w a = go (x.plans t w a)
     go (quotes at q r) = subst (PlanSays rule s t) (sym q) (refl, r)
     go (goes_alone next at q r) = subst (PlanSays rule s t) (sym q) (refl, r)
     go (goes_on q r) = subst (PlanSays rule s t) (sym q) r
-
-pub plan_pairs : (rule : NameMap → Sexp → Sexp) {s : Bytes} → Plans rule s Parts → PairAtStart rule s
-plan_pairs rule x = record { goes = plan_says rule x }
 
 module _ (rule : NameMap → Sexp → Sexp) {mem : Bytes} {t : Task} where
   pub renamed_atom : {new : Bytes} {r : Result Step Refusal} → Plans rule mem ByMap → Substitutes rename_atom mem new t r → Substitutes rule mem new t r

@@ -1,5 +1,5 @@
 -- The ways of a rest: which of them replace a result, and how the sum goes on by each. Assumes nothing.
-use mathlib.Core.Path.{◌≡◌, refl, sym, ap}
+use mathlib.Core.Path.{◌≡◌, refl}
 use native.Mathlib.Omega.{arith}
 use Prim.Native.Nat.{ℕ, ◌+◌, ◌≤◌}
 use Rattle.walk.specs.FormWalks.{new_sum}
@@ -13,10 +13,6 @@ own_fresh e = let z : ◌≡◌ {A = ℕ} 0 1 = cc in absurd (omega arith)
 -- nor do the in-rules alone
 pub in_fresh : In ≡ Further → ⊥
 in_fresh e = let z : ◌≡◌ {A = ℕ} 0 1 = cc in absurd (omega arith)
-
--- the sum, where the way is known
-pub sum_of : {way : Way} (w : Way) (x r n : ℕ) → way ≡ w → new_sum w x r n ≡ new_sum way x r n
-sum_of w x r n e = ap (λ (v : Way). new_sum v x r n) (sym e)
 
 -- nothing read and nothing made
 pub sum_none : (way : Way) (x : ℕ) → x ≡ new_sum way x 0 0
