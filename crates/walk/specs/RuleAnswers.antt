@@ -7,7 +7,6 @@ use Rattle.names.specs.declared.Refusal.{Refusal}
 use Rattle.walk.specs.declared.Drawn.{Drawn}
 use Rattle.walk.specs.declared.Made.{Made}
 use Rattle.walk.specs.declared.Piece.{Piece}
-use Rattle.std.specs.declared.result.Result.{Result}
 
 -- bytes read and written, and the sum
 abbrev pub piece_of : ℕ → ℕ → ℕ → ℕ → Result Piece Refusal
