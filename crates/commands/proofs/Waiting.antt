@@ -16,7 +16,8 @@ use Rattle.names.proofs.Same.{same→eq, same_refl}
 use Rattle.records.specs.Lists.{Each}
 use Rattle.records.specs.Records.{Sexp, SN, SC, SA, Complex, Name, BV, Binding, BB}
 use Rattle.ordering.specs.Assign.{need_limit}
-use Rattle.ordering.specs.declared.Listed.{Listed}
+use Rattle.ordering.specs.declared.listed.Listed.{Listed}
+use Rattle.ordering.specs.declared.provides.Provided.{Provided}
 use Rattle.ordering.specs.Items.{any, keep, gives}
 use Rattle.ordering.specs.Listing.{ListsBody}
 use Rattle.ordering.specs.Needs.{bits, providers, needs_of}
@@ -73,11 +74,12 @@ lone_needs x ws =
     ∙ any_as (λ y. any (gives y) (items (lone x))) (same x) (λ y. or_none (same y x) (same x y) (same_sym y x)) ws
 
 -- so its needs of a body say whether x is among the words
-pub tells_word : {s before after : Bytes} {body entry : ℕ} {r : Listed} → ListsBody s (0 ∷ entry ∷ []) (take (length s - body) (drop body s)) 0 before after 0 r
-    → length before ≡ need_limit → TellsWord s body entry (ltb 0 r.count)
-tells_word {r = r} h size top b x v at e =
-    let n = (h.lists b v (into at)).lists (lone x) (lone_listed x e) (omega (arith, few_needs (items (lone x)) (words b), few_words b v.0, at.fits)) in
-    let k : r.count ≡ length (needs_of (items (lone x)) (words b)) = omega (arith, n.counted) in
+pub tells_word : (given : Provided) {s : Bytes} {entry body end : ℕ} {fresh needs : Listed ℕ} → given.bytes.now ≡ s → given.entries.now ≡ 0 ∷ entry ∷ [] → ListsBody given (take (length s - body) (drop body s)) 0 fresh needs end
+    → fresh.count ≡ 0 → length fresh.items.now ≡ need_limit → TellsWord s body entry (ltb 0 needs.count)
+tells_word given {s} {entry} {needs = needs} is lists h empty size top b x v at e =
+    let p : Provisions given.bytes.now given.entries.now (lone x) = rw (is, lists) (lone_listed x e) in
+    let n = (h.lists b v (into at)).lists (lone x) p (omega (arith, few_needs (items (lone x)) (words b), few_words b v.0, at.fits)) in
+    let k : needs.count ≡ length (needs_of (items (lone x)) (words b)) = omega (arith, n.counted) in
     rw k (lone_needs x (words b))
 
 -- the name of an entry
@@ -209,18 +211,20 @@ module _ (a : Bytes) where
       (BB [] [] (Complex (spread xs)) (BV (SN [])) ∷ cs, (fs, more, rw e (ap (λ (zs : List ℕ). 0 ∷ zs) q), rw (spread_provides xs) en', pr'))
 
 -- what the test of an entry decides: the providers of its name are not all stuck; or they are, and q are those among the first k entries
-module _ {s : Bytes} {given : List ℕ} {k stuck p : ℕ} (is : (bs : List Binding) → Provisions s given bs → p ≡ providers (items bs) (entry_name s (get_or given k 0))) where
-  pub missing_not : (bit_and p stuck ≡ p → ⊥) → TellsMissing s given k stuck (eqb (bit_and p stuck) p)
+module _ {given : Provided} {k stuck p : ℕ}
+    (is : (bs : List Binding) → Provisions given.bytes.now given.entries.now bs → p ≡ providers (items bs) (entry_name given.bytes.now (get_or given.entries.now k 0))) where
+  pub missing_not : (bit_and p stuck ≡ p → ⊥) → TellsMissing given k stuck (eqb (bit_and p stuck) p)
   missing_not n bs x pr en =
       let u : p ≡ providers (items bs) x = rw (said _ en) at (is bs pr) in
       (λ f. absurd (n (eqb-true (bit_and p stuck) p f)), λ m. absurd (n (rw u m.only)))
 
-  pub missing_first : {q : ℕ} → bit_and p stuck ≡ p → ((cs : List Binding) → Provisions s (take k given) cs → q ≡ providers (items cs) (entry_name s (get_or given k 0)))
-      → TellsMissing s given k stuck (eqb q 0)
+  pub missing_first : {q : ℕ} → bit_and p stuck ≡ p
+      → ((cs : List Binding) → Provisions given.bytes.now (take k given.entries.now) cs → q ≡ providers (items cs) (entry_name given.bytes.now (get_or given.entries.now k 0))) → TellsMissing given k stuck (eqb q 0)
   missing_first {q} h first bs x pr en =
-      let (cs, pc) = first_listed s k bs given pr in
+      let s = given.bytes.now in
+      let (cs, pc) = first_listed s k bs given.entries.now pr in
       let u : p ≡ providers (items bs) x = rw (said _ en) at (is bs pr) in
       let v : q ≡ providers (items cs) x = rw (said _ en) at (first cs pc) in (
-        λ f. record { only = rw (← u) h; first = none_says s x cs (take k given) pc (sym v ∙ eqb-true q 0 f) },
-        λ m. eq-eqb q 0 (v ∙ none_provides s x cs (take k given) pc m.first),
+        λ f. record { only = rw (← u) h; first = none_says s x cs (take k given.entries.now) pc (sym v ∙ eqb-true q 0 f) },
+        λ m. eq-eqb q 0 (v ∙ none_provides s x cs (take k given.entries.now) pc m.first),
       )

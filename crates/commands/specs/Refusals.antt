@@ -1,47 +1,46 @@
 -- The words of each refusal, and the place that is shown with them. Assumes nothing.
-use Rattle.std.specs.Prelude.{Bool, true, false, [], ◌∷◌, ℕ, get_or}
+use Rattle.std.specs.Prelude.{Bool, true, false, Option, Some, None}
 use Rattle.names.specs.Names.{Bytes, ascii}
+use Rattle.names.specs.declared.Reason.{Reason}
+use Rattle.names.specs.declared.Reason.TheVariants.{OutOfRange, NotOneRecord, PastLimit, ModInBinding, Deadlock, LongName, LongRecord, ShortBuffer, ShortPage}
 use Rattle.commands.specs.declared.refusal.Shown.{Shown}
-use Rattle.commands.specs.declared.refusal.Shown.TheVariants.{Nothing, Offset, Location}
-use Rattle.commands.specs.declared.refusal.Words.{Words}
-use Rattle.commands.specs.declared.refusal.Words.TheVariants.{CounterAbove, LongestOutside, NotOneRecord, LongInput, PastLimit, ModInBinding, NoOrder, LongName, LongRecord, ShortBuffer}
+use Rattle.commands.specs.declared.refusal.Shown.TheVariants.{Offset, Location}
 
--- 1 is of the counter where that is above its limit, 3 of the input where that is longer than F
-abbrev pub limit_words : Bool → Words
-limit_words true = CounterAbove
-limit_words false = LongestOutside
+-- what is out of its range: the counter where that is above its limit, else F
+abbrev pub range_text : Bool → Bytes
+range_text true = ascii "the counter is above 4294967295"
+range_text false = ascii "F is not from 64 to 16384"
 
-abbrev pub length_words : Bool → Words
-length_words true = LongInput
-length_words false = PastLimit
+-- which limit is passed: F where the input is longer
+abbrev pub limit_text : Bool → Bytes
+limit_text true = ascii "the input is longer than F"
+limit_text false = ascii "a limit of the format is passed"
 
--- what a number means
-abbrev pub refusal_words : ℕ → Bool → Bool → Words
-refusal_words n above long =
-    get_or (ShortBuffer ∷ limit_words above ∷ NotOneRecord ∷ length_words long ∷ ModInBinding ∷ NoOrder ∷ LongName ∷ LongRecord ∷ []) n ShortBuffer
+-- the words of a reason as they are shown
+abbrev pub refusal_text : Reason → Bool → Bool → Bytes
+refusal_text OutOfRange above long = range_text above
+refusal_text NotOneRecord above long = ascii "the input is not exactly one record of the kind asked for"
+refusal_text PastLimit above long = limit_text long
+refusal_text ModInBinding above long = ascii "a binding body of an assign has a BM in it"
+refusal_text Deadlock above long = ascii "the bindings of the assign have no order"
+refusal_text LongName above long = ascii "a made name would be longer than 255 bytes"
+refusal_text LongRecord above long = ascii "a record would be longer than F"
+refusal_text ShortBuffer above long = ascii "the result buffer is too short"
+refusal_text ShortPage above long = ascii "the result buffer is too short"
+
+-- the place of a passed limit: none where the input is longer than F
+abbrev pub limit_shown : Bool → Option Shown
+limit_shown true = None
+limit_shown false = Some Offset
 
 -- the place of 2, 3 in reading and 4 is an offset, that of 5 a location; the others have none
-abbrev pub words_place : Words → Shown
-words_place CounterAbove = Nothing
-words_place LongestOutside = Nothing
-words_place NotOneRecord = Offset
-words_place LongInput = Nothing
-words_place PastLimit = Offset
-words_place ModInBinding = Offset
-words_place NoOrder = Location
-words_place LongName = Nothing
-words_place LongRecord = Nothing
-words_place ShortBuffer = Nothing
-
--- the words as they are shown
-abbrev pub words_text : Words → Bytes
-words_text CounterAbove = ascii "the counter is above 4294967295"
-words_text LongestOutside = ascii "F is not from 64 to 16384"
-words_text NotOneRecord = ascii "the input is not exactly one record of the kind asked for"
-words_text LongInput = ascii "the input is longer than F"
-words_text PastLimit = ascii "a limit of the format is passed"
-words_text ModInBinding = ascii "a binding body of an assign has a BM in it"
-words_text NoOrder = ascii "the bindings of the assign have no order"
-words_text LongName = ascii "a made name would be longer than 255 bytes"
-words_text LongRecord = ascii "a record would be longer than F"
-words_text ShortBuffer = ascii "the result buffer is too short"
+abbrev pub refusal_shown : Reason → Bool → Option Shown
+refusal_shown OutOfRange long = None
+refusal_shown NotOneRecord long = Some Offset
+refusal_shown PastLimit long = limit_shown long
+refusal_shown ModInBinding long = Some Offset
+refusal_shown Deadlock long = Some Location
+refusal_shown LongName long = None
+refusal_shown LongRecord long = None
+refusal_shown ShortBuffer long = None
+refusal_shown ShortPage long = None

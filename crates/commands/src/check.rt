@@ -3,7 +3,7 @@ ghost use Rattle.std.specs.Prelude.{◌≤◌, length};
 ghost use Rattle.records.specs.Limits.{most_longest};
 ghost use Rattle.commands.specs.Records.{RecordsIn};
 
-use crate::{MOST_READ, WORK, file, refusal, say};
+use crate::{WORK, file, refusal, say};
 use outline::ENTRY_WIDTH;
 use outline::index::index_input;
 use records::input::open_input;
@@ -22,11 +22,7 @@ pub fn check(
     path: &[u8],
     f: usize,
 ) -> io::Result<()> {
-    let mut input = [0u8; MOST_READ];
-    match file::read(rt, to, path, &mut input) {
-        Some(bytes) => judge(rt, to, bytes, wanted, f),
-        None => Ok(()),
-    }
+    file::with(rt, to, path, |input| judge(rt, to, input, wanted, f))
 }
 
 // Prints that the bytes of a file are accepted and how many records they have, or the refusal.
@@ -43,7 +39,7 @@ fn judge(
             let mut mem = [0u8; INDEX];
             let n = records_in(input, &mut mem);
             say::text(out, b"accepted: ")?;
-            say::number(out, n as u64)?;
+            say::number(out, n)?;
             if n == 1 {
                 say::text(out, b" record\n")
             } else {

@@ -1,26 +1,31 @@
-// A file that an argument names, read into memory or written.
+// A file that an argument names, read or written.
 ghost use Rattle.std.specs.Prelude.{◌≤◌, length, IfSome, IfOk};
 
 use crate::say;
+use records::MOST_LONGEST;
 use std::io::Read;
 use std::rt::Files;
 use std::{fs, io};
 
-// Reads a file into a buffer, as much of it as the buffer holds, or says that it cannot be read. What
-// cannot be written is dropped.
-pub fn read<'a>(
+// How much of a file is read: a file that fills it is over every F, and refused as 3.
+const MOST_READ: usize = MOST_LONGEST + 1;
+
+// Reads a file, as much of it as MOST_READ, and hands its bytes to a closure, or says that it cannot
+// be read. What cannot be written of that is dropped.
+pub fn with<F: FnOnce(&[u8]) -> io::Result<()>>(
     rt: &impl Files,
     to: &impl Print,
     path: &[u8],
-    input: &'a mut [u8],
-) -> Option<&'a [u8]>
-    ensures { IfSome result (λ bytes. length bytes.now ≤ length input.old) }
+    then: F,
+) -> io::Result<()>
+    requires { F.IsAlwaysCallable then }
 {
-    match opened(rt, path, input) {
-        Some(len) => Some(&input[..len]),
+    let mut input = [0u8; MOST_READ];
+    match opened(rt, path, &mut input) {
+        Some(len) => then(&input[..len]),
         None => {
             let _ = cannot(to, b"read ", path);
-            None
+            Ok(())
         }
     }
 }
@@ -52,20 +57,19 @@ fn fill(file: &mut impl Read, input: &mut [u8]) -> io::Result<usize>
 }
 
 // Writes a file, made or emptied first, and answers whether it was written, or says that it cannot be.
+// A bool, and no error: a program that has said so ends well.
 pub fn write(rt: &impl Files, to: &impl Print, path: &[u8], bytes: &[u8]) -> io::Result<bool> {
-    if overwrite(rt, path, bytes) {
-        return Ok(true);
+    let written = overwrite(rt, path, bytes).is_some();
+    if !written {
+        cannot(to, b"write ", path)?;
     }
-    cannot(to, b"write ", path)?;
-    Ok(false)
+    Ok(written)
 }
 
-// Whether a file is written. A path that is no text names no file.
-fn overwrite(rt: &impl Files, path: &[u8], bytes: &[u8]) -> bool {
-    match str::from_utf8(path) {
-        Ok(path) => fs::write(rt, path, bytes).is_ok(),
-        Err(_) => false,
-    }
+// Opens a file and writes it. A path that is no text names no file.
+fn overwrite(rt: &impl Files, path: &[u8], bytes: &[u8]) -> Option<()> {
+    let path = str::from_utf8(path).ok()?;
+    fs::write(rt, path, bytes).ok()
 }
 
 // Says what cannot be done with the file.

@@ -22,6 +22,3 @@ use records::{MOST_LONGEST, WORK_FACTOR};
 
 // The length of work memory that is enough for every F.
 pub const WORK: usize = WORK_FACTOR * MOST_LONGEST;
-
-// How much of a file is read: a file that fills it is over every F, and refused as 3.
-pub const MOST_READ: usize = MOST_LONGEST + 1;

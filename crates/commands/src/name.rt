@@ -7,8 +7,8 @@ use std::io;
 pub fn make(out: &impl Print, to: &impl Print, name: &[u8], counter: u64) -> io::Result<()> {
     let mut made = [0u8; names::NAME_LIMIT];
     let answer = names::call::name_call(name, counter, &mut made);
-    if answer.refusal.number != 0 {
-        return refusal::print(to, answer.refusal, counter > MAX_COUNTER, false);
+    if let Some(refusal) = answer.refusal {
+        return refusal::print(to, refusal, counter > MAX_COUNTER, false);
     }
     let len = answer.len;
     say::text(out, b"name ")?;

@@ -3,14 +3,16 @@
 ghost use Rattle.std.specs.Prelude.{◌≤◌, length};
 ghost use Rattle.names.specs.Names.{Bytes};
 ghost use Rattle.records.specs.Limits.{most_longest};
-ghost use Rattle.records.specs.Records.{Loc, Kind, Body, Bindings};
+ghost use Rattle.records.specs.Records.{Loc, Body, Bindings};
+ghost use Rattle.records.specs.declared.Kind.{Kind};
 ghost use Rattle.ordering.specs.Assign.{Let};
-ghost use Rattle.ordering.specs.Provisions.{Given};
 
 use crate::ready::ready;
-use crate::{MOST_READ, WORK, columns, file, provided, refusal, say, waits};
+use crate::{WORK, columns, file, provided, refusal, say, waits};
+use names::Reason;
 use ordering::assign::find_names;
 use ordering::call::order_call;
+use ordering::provides::Provided;
 use ordering::{BINDING_LIMIT, NEED_LIMIT};
 use records::bodies::let_view;
 use records::input::open_input;
@@ -27,11 +29,7 @@ pub fn order(
     f: usize,
     work: &mut [u8; WORK],
 ) -> io::Result<()> {
-    let mut input = [0u8; MOST_READ];
-    match file::read(rt, to, path, &mut input) {
-        Some(s) => ordered(rt, to, s, f, work),
-        None => Ok(()),
-    }
+    file::with(rt, to, path, |s| ordered(rt, to, s, f, work))
 }
 
 // Orders an assign, and prints what the call answers.
@@ -44,27 +42,24 @@ fn ordered(
 ) -> io::Result<()> {
     let mut row = [0u8; BINDING_LIMIT];
     let a = order_call(f, work, 0, s, &mut row);
-    let len = a.len;
-    if len > BINDING_LIMIT {
+    let Some(row) = row.get(..a.len) else {
         return Ok(());
-    }
-    let refusal = a.refusal;
-    let number = refusal.number;
-    if number == 0 && len == 0 {
-        say::text(out, b"ordered: there are no bindings\n")?;
-    } else if number == 0 {
-        told(out, s, f, &row[..len], a.rounds)?;
-    } else {
-        refusal::print(to, refusal, false, s.len() > f)?;
-        if number == 5 {
-            say::text(
-                to,
-                b"stuck, each waiting for names that only stuck bindings provide:\n",
-            )?;
-            told(to, s, f, &row[..len], 0)?;
+    };
+    match a.refusal {
+        None if row.is_empty() => say::text(out, b"ordered: there are no bindings\n"),
+        None => told(out, s, f, row, a.rounds),
+        Some(refusal) => {
+            refusal::print(to, refusal, false, s.len() > f)?;
+            if refusal.reason == Reason::Deadlock {
+                say::text(
+                    to,
+                    b"stuck, each waiting for names that only stuck bindings provide:\n",
+                )?;
+                told(to, s, f, row, 0)?;
+            }
+            Ok(())
         }
     }
-    Ok(())
 }
 
 // Prints the bindings of a row: an order in so many rounds, or with no rounds the stuck ones. The
@@ -83,13 +78,17 @@ fn names(to: &impl Print, s: &[u8], row: &[u8], rounds: u64) -> io::Result<()>
 {
     let v = let_view(s);
     let count = usize::from(v.count);
-    let mut given = [0usize; NEED_LIMIT];
+    let mut entries = [0usize; NEED_LIMIT];
     let mut bodies = [0usize; BINDING_LIMIT];
-    let n = find_names(s, v.first, &mut given, &mut bodies[..count]);
+    let n = find_names(s, v.first, &mut entries, &mut bodies[..count]);
+    let given = Provided {
+        bytes: s,
+        entries: &entries[..n],
+    };
     if rounds == 0 {
-        print_stuck(to, s, &given[..n], &bodies, bits_of(row))
+        print_stuck(to, &given, &bodies, bits_of(row))
     } else {
-        print_ordered(to, s, &given[..n], &bodies, row, rounds)
+        print_ordered(to, &given, &bodies, row, rounds)
     }
 }
 
@@ -107,58 +106,45 @@ fn bits_of(row: &[u8]) -> u64 {
 }
 
 // Whether all that a binding needs is provided by the bindings `before`, given as bits.
-fn met(s: &[u8], given: &[usize], bodies: &[usize], index: usize, before: u64) -> bool
-    requires { Given s.now given.now }
-{
-    index < bodies.len() && ready(s, given, bodies[index], before)
+fn met(given: &Provided, bodies: &[usize], index: usize, before: u64) -> bool {
+    index < bodies.len() && ready(given, bodies[index], before)
 }
 
 // Prints the bindings in their order, one in each line, marked in the column of its round: a binding
 // that needs more than the columns before provide begins the next.
 fn print_ordered(
     to: &impl Print,
-    s: &[u8],
-    given: &[usize],
+    given: &Provided,
     bodies: &[usize],
     row: &[u8],
     rounds: u64,
-) -> io::Result<()>
-    requires { Given s.now given.now }
-{
+) -> io::Result<()> {
     columns::head(to, rounds)?;
     let mut before = 0;
     let mut seen = 0;
     let mut column = 1;
     for i in row {
         let index = usize::from(*i);
-        if !met(s, given, bodies, index, before) {
+        if !met(given, bodies, index, before) {
             before = seen;
             column += 1;
         }
         seen |= bit(*i);
         columns::mark(to, column, rounds)?;
-        print_binding(to, s, given, index)?;
+        print_binding(to, given, index)?;
         say::text(to, b"\n")?;
     }
     Ok(())
 }
 
 // Prints the stuck bindings, given as bits, one in each line, with the names that each waits for.
-fn print_stuck(
-    to: &impl Print,
-    s: &[u8],
-    given: &[usize],
-    bodies: &[usize],
-    stuck: u64,
-) -> io::Result<()>
-    requires { Given s.now given.now }
-{
+fn print_stuck(to: &impl Print, given: &Provided, bodies: &[usize], stuck: u64) -> io::Result<()> {
     let mut rest = stuck;
     for i in 0..bodies.len() {
         if rest % 2 == 1 {
-            print_binding(to, s, given, i)?;
+            print_binding(to, given, i)?;
             say::text(to, b", waits for")?;
-            waits::print(to, s, given, bodies[i], stuck)?;
+            waits::print(to, given, bodies[i], stuck)?;
             say::text(to, b"\n")?;
         }
         rest /= 2;
@@ -167,9 +153,9 @@ fn print_stuck(
 }
 
 // Prints a binding's index, and the names that it provides.
-fn print_binding(to: &impl Print, s: &[u8], given: &[usize], index: usize) -> io::Result<()> {
+fn print_binding(to: &impl Print, given: &Provided, index: usize) -> io::Result<()> {
     say::text(to, b"  binding ")?;
-    say::number(to, index as u64)?;
+    say::number(to, index)?;
     say::text(to, b" provides")?;
-    provided::print(to, s, given, index)
+    provided::print(to, given, index)
 }

@@ -1,5 +1,5 @@
 // `rename page FILE F`: the call Page, printed.
-use crate::{MOST_READ, WORK, file, refusal, say};
+use crate::{WORK, file, refusal, say};
 use outline::LINE_WIDTH;
 use outline::page::page_call;
 use records::MOST_LONGEST;
@@ -10,7 +10,8 @@ use std::rt::Files;
 const MOST_PAGE: usize = (LINE_WIDTH + 1) * MOST_LONGEST;
 
 // Reads a file and prints the page of its form. Work memory and the page are lent as arrays, so that
-// no proof has to count their bytes.
+// no proof has to count their bytes. A command is given what `order` is given too: a struct of that would
+// be made at the call to be taken apart here.
 pub fn page(
     rt: &(impl Files + Print),
     to: &impl Print,
@@ -19,23 +20,7 @@ pub fn page(
     work: &mut [u8; WORK],
 ) -> io::Result<()> {
     let mut lines = [0u8; MOST_PAGE];
-    read(rt, to, path, f, work, &mut lines)
-}
-
-// Reads a file and lays its form out.
-fn read(
-    rt: &(impl Files + Print),
-    to: &impl Print,
-    path: &[u8],
-    f: usize,
-    work: &mut [u8; WORK],
-    lines: &mut [u8; MOST_PAGE],
-) -> io::Result<()> {
-    let mut input = [0u8; MOST_READ];
-    match file::read(rt, to, path, &mut input) {
-        Some(s) => print(rt, to, s, f, work, lines),
-        None => Ok(()),
-    }
+    file::with(rt, to, path, |s| print(rt, to, s, f, work, &mut lines))
 }
 
 // Prints the page of a form, or the refusal.
@@ -48,12 +33,11 @@ fn print(
     lines: &mut [u8],
 ) -> io::Result<()> {
     let a = page_call(f, work, s, lines);
-    let len = a.len;
-    let refusal = a.refusal;
-    if refusal.number != 0 {
-        refusal::print(to, refusal, false, s.len() > f)?;
-    } else if len <= lines.len() {
-        say::text(out, &lines[..len])?;
+    if let Some(refusal) = a.refusal {
+        return refusal::print(to, refusal, false, s.len() > f);
     }
-    Ok(())
+    match lines.get(..a.len) {
+        Some(page) => say::text(out, page),
+        None => Ok(()),
+    }
 }

@@ -2,6 +2,7 @@
 // name starts and ends, and an entry 0 stands before those of each binding.
 use crate::say;
 use ordering::PLACES;
+use ordering::provides::Provided;
 use std::io;
 
 // Prints the name of an entry after a space.
@@ -16,14 +17,14 @@ pub fn print_entry(to: &impl Print, s: &[u8], entry: usize) -> io::Result<()> {
 }
 
 // Prints the names that a binding provides, each after a space.
-pub fn print(to: &impl Print, s: &[u8], given: &[usize], index: usize) -> io::Result<()> {
+pub fn print(to: &impl Print, given: &Provided, index: usize) -> io::Result<()> {
     let mut bindings = 0;
     let mut some = false;
-    for entry in given {
+    for entry in given.entries {
         if *entry == 0 {
             bindings += 1;
         } else if bindings > 0 && bindings - 1 == index {
-            print_entry(to, s, *entry)?;
+            print_entry(to, given.bytes, *entry)?;
             some = true;
         }
     }

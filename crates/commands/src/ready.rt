@@ -1,25 +1,22 @@
 // Which bindings can stand in a round of an order.
-ghost use Rattle.ordering.specs.Provisions.{Given};
 ghost use Rattle.commands.specs.Ready.{TellsReady};
 
 use ordering::NEED_LIMIT;
+use ordering::listed::Listed;
 use ordering::needs::body_needs;
+use ordering::provides::Provided;
 
 // Whether each name that the body at a place needs is provided by one of the bindings `before`, given
 // as bits.
-pub fn ready(s: &[u8], given: &[usize], body: usize, before: u64) -> bool
-    requires { Given s.now given.now }
-    ensures { TellsReady s.now given.now body before result }
+pub fn ready(given: &Provided, body: usize, before: u64) -> bool
+    ensures { TellsReady given.now body before result }
 {
+    let s = given.bytes;
     if body > s.len() {
         return false;
     }
-    let mut needs = [0u64; NEED_LIMIT];
-    let r = body_needs(s, given, &s[body..], &mut needs, 0);
-    for k in 0..r.count {
-        if needs[k] & before == 0 {
-            return false;
-        }
-    }
-    true
+    let mut room = [0u64; NEED_LIMIT];
+    let mut needs = Listed::new(&mut room);
+    body_needs(given, &s[body..], &mut needs);
+    needs.listed().iter().all(|need| *need & before != 0)
 }

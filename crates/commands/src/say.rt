@@ -2,6 +2,7 @@
 ghost use Rattle.std.specs.Prelude.{◌≡◌};
 
 use outline::page::visible;
+use std::fmt::Display;
 use std::io;
 
 // Writes bytes as they are.
@@ -9,8 +10,8 @@ pub fn text(to: &impl Print, words: &[u8]) -> io::Result<()> {
     to.write_all(words)
 }
 
-// Writes a number in decimal.
-pub fn number(to: &impl Print, n: u64) -> io::Result<()> {
+// Writes a number of any width in decimal.
+pub fn number(to: &impl Print, n: impl Display + Drop) -> io::Result<()> {
     to.print(n)
 }
 

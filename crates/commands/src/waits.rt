@@ -1,11 +1,11 @@
 // The names that a stuck binding waits for.
 ghost use Rattle.std.specs.Prelude.{◌<◌, length};
-ghost use Rattle.ordering.specs.Provisions.{Given};
 ghost use Rattle.commands.specs.Waiting.{TellsWord, TellsMissing};
 
 use crate::provided::print_entry;
+use ordering::listed::Listed;
 use ordering::needs::body_needs;
-use ordering::provides::providers;
+use ordering::provides::Provided;
 use ordering::{NEED_LIMIT, PLACES};
 use std::io;
 
@@ -16,40 +16,40 @@ fn has_word(s: &[u8], body: usize, entry: usize) -> bool
 {
     let start = entry / PLACES;
     let end = entry % PLACES;
-    if start > end {
+    if start > end || end > s.len() || body > s.len() {
         return false;
     }
-    if end > s.len() {
-        return false;
-    }
-    if body > s.len() {
-        return false;
-    }
-    let mut given = [0usize; 2];
-    given[1] = entry;
-    let mut needs = [0u64; NEED_LIMIT];
-    let r = body_needs(s, &given, &s[body..], &mut needs, 0);
-    r.count > 0
+    let lone = Provided {
+        bytes: s,
+        entries: &[0, entry],
+    };
+    let mut room = [0u64; NEED_LIMIT];
+    let mut needs = Listed::new(&mut room);
+    body_needs(&lone, &s[body..], &mut needs);
+    needs.count > 0
 }
 
 // Whether an entry is the first of its name, and every binding that provides the name is stuck.
-fn missing(s: &[u8], given: &[usize], k: usize, stuck: u64) -> bool
-    requires { Given s.now given.now × (k < length given.now) }
-    ensures { TellsMissing s.now given.now k stuck result }
+fn missing(given: &Provided, k: usize, stuck: u64) -> bool
+    requires { k < length given.now.entries.now }
+    ensures { TellsMissing given.now k stuck result }
 {
-    let start = given[k] / PLACES;
-    let end = given[k] % PLACES;
-    let bits = providers(s, given, &s[start..end]);
-    bits & stuck == bits && providers(s, &given[..k], &s[start..end]) == 0
+    let start = given.entries[k] / PLACES;
+    let end = given.entries[k] % PLACES;
+    let name = &given.bytes[start..end];
+    let bits = given.providers(name);
+    let before = Provided {
+        bytes: given.bytes,
+        entries: &given.entries[..k],
+    };
+    bits & stuck == bits && before.providers(name) == 0
 }
 
 // Prints the names that the body at a place needs and that only stuck bindings provide.
-pub fn print(to: &impl Print, s: &[u8], given: &[usize], body: usize, stuck: u64) -> io::Result<()>
-    requires { Given s.now given.now }
-{
-    for (k, entry) in given.iter().enumerate() {
-        if *entry != 0 && missing(s, given, k, stuck) && has_word(s, body, *entry) {
-            print_entry(to, s, *entry)?;
+pub fn print(to: &impl Print, given: &Provided, body: usize, stuck: u64) -> io::Result<()> {
+    for (k, entry) in given.entries.iter().enumerate() {
+        if *entry != 0 && missing(given, k, stuck) && has_word(given.bytes, body, *entry) {
+            print_entry(to, given.bytes, *entry)?;
         }
     }
     Ok(())

@@ -1,10 +1,12 @@
 -- What a linked function answers, as numbers.
 -- Assumes nothing.
-use Rattle.std.specs.Prelude.{Result as Res, Ok, Err}
-use Rattle.std.specs.Prelude.{List, ◌≡◌, ℕ, zero, suc, ◌*◌, length, get_or}
+use Rattle.std.specs.Prelude.{Result as Res, Ok, Err, Option, None, Some}
+use Rattle.std.specs.Prelude.{List, [], ◌∷◌, ◌≡◌, ℕ, zero, suc, ◌*◌, length, get_or}
 use Rattle.names.specs.CallAnswer.{CallResult}
 use Rattle.names.specs.Names.{Bytes}
-use Rattle.names.specs.Refusals.{place_at, refusing, placeless, no_refusal}
+use Rattle.names.specs.Refusals.{place_at, refusing, placeless, refusal_number, refusal_place}
+use Rattle.names.specs.declared.Reason.{Reason}
+use Rattle.names.specs.declared.Reason.TheVariants.{OutOfRange, NotOneRecord, PastLimit, ModInBinding, Deadlock, LongName, LongRecord, ShortBuffer, ShortPage}
 use Rattle.names.specs.declared.Answer.{Answer}
 use Rattle.names.specs.declared.Refusal.{Refusal}
 use Rattle.records.specs.Limits.{most_longest, work_factor}
@@ -13,34 +15,62 @@ use Rattle.records.specs.Scan.{wanted_reader, opening_of}
 use Rattle.records.specs.declared.Wanted.{Wanted}
 use Rattle.records.specs.declared.Wanted.TheVariants.{Form, Helper, Assign}
 
--- an answer by its numbers: the refusal's and its place, the counter, the rounds, the bytes written
-abbrev pub answer_told : ℕ → ℕ → ℕ → ℕ → ℕ → Answer
-answer_told n p c rounds len = record { refusal = refusing n (place_at p); counter = c; rounds = rounds; len = len }
+-- what is told of an answer: its refusal's number, or 0; and its place, the counter, the rounds and the bytes written
+pub record Told (a : Answer) (n : ℕ) (told : List ℕ) : Type 0 where
+  pub number : n ≡ refusal_number a.refusal
+  pub others : told ≡ (refusal_place a.refusal).start ∷ a.counter ∷ a.rounds ∷ a.len ∷ []
 
--- an answer by the number returned and the four that are told: place, counter, rounds, length
-abbrev pub answer_in : ℕ → List ℕ → Answer
-answer_in n told = answer_told n (get_or told 0 0) (get_or told 1 0) (get_or told 2 0) (get_or told 3 0)
+-- a linked function answers r: it tells its answer, and leaves the result buffer as r does
+pub record Answers (r : CallResult) (n : ℕ) (told : List ℕ) (after : Bytes) : Type 0 where
+  pub tells : Told r.0 n told
+  pub buffer : after ≡ r.1
 
--- the refusal that is told
-abbrev pub refusal_in : ℕ → List ℕ → Refusal
-refusal_in n told = (answer_in n told).refusal
-
--- a linked function hands a call on: what it tells, and the result buffer as it leaves it, are the result of the call on what it is given
+-- it hands a call on, with what it is given
 abbrev pub Hands : (ℕ → ℕ → ℕ → Bytes → Bytes → CallResult) → ℕ → Bytes → ℕ → Bytes → Bytes → ℕ → List ℕ → Bytes → Type 0
-Hands call f work counter input before n told after = (answer_in n told, after) ≡ call f (length work) counter input before
+Hands call f work counter input before n told after = Answers (call f (length work) counter input before) n told after
 
--- the refusal of an input, or none
-abbrev pub refusal_of : Res (Unit {0}) Refusal → Refusal
-refusal_of (Ok u) = no_refusal
-refusal_of (Err r) = r
+-- the reason of a number, if one has it
+abbrev pub reason_of : ℕ → Option Reason
+reason_of zero = None
+reason_of (suc zero) = Some OutOfRange
+reason_of (suc (suc zero)) = Some NotOneRecord
+reason_of (suc (suc (suc zero))) = Some PastLimit
+reason_of (suc (suc (suc (suc zero)))) = Some ModInBinding
+reason_of (suc (suc (suc (suc (suc zero))))) = Some Deadlock
+reason_of (suc (suc (suc (suc (suc (suc zero)))))) = Some LongName
+reason_of (suc (suc (suc (suc (suc (suc (suc zero))))))) = Some LongRecord
+reason_of (suc (suc (suc (suc (suc (suc (suc (suc zero)))))))) = Some ShortBuffer
+reason_of (suc (suc (suc (suc (suc (suc (suc (suc (suc zero))))))))) = Some ShortPage
+reason_of (suc (suc (suc (suc (suc (suc (suc (suc (suc (suc n)))))))))) = None
 
--- the refusal of an input of which this record is wanted, with work memory and a counter that every F allows
-unfoldable pub read_as : Wanted → ℕ → Bytes → Refusal
-read_as w F input = refusal_of (opening_of (open_input (wanted_reader w).1 F (work_factor * most_longest) 0 input))
+-- the refusal and the answer that are told
+abbrev pub refusal_by : Option Reason → ℕ → Option Refusal
+refusal_by None p = None
+refusal_by (Some r) p = Some (refusing r (place_at p))
+
+abbrev pub refusal_in : ℕ → List ℕ → Option Refusal
+refusal_in n told = refusal_by (reason_of n) (get_or told 0 0)
+
+abbrev pub answer_in : ℕ → List ℕ → Answer
+answer_in n told = record { refusal = refusal_in n told; counter = get_or told 1 0; rounds = get_or told 2 0; len = get_or told 3 0 }
+
+-- whether an input of which this record is wanted is refused, with work memory and a counter that every F allows
+unfoldable pub read_as : Wanted → ℕ → Bytes → Res (Unit {0}) Refusal
+read_as w F input = opening_of (open_input (wanted_reader w).1 F (work_factor * most_longest) 0 input)
 
 -- reading an input of a kind: 0 a CF, 1 an H record, 2 an assign; there is no other kind, and 1 refuses it
-unfoldable pub read_call : ℕ → ℕ → Bytes → Refusal
+unfoldable pub read_call : ℕ → ℕ → Bytes → Res (Unit {0}) Refusal
 read_call zero F input = read_as Form F input
 read_call (suc zero) F input = read_as Helper F input
 read_call (suc (suc zero)) F input = read_as Assign F input
-read_call (suc (suc (suc k))) F input = placeless 1
+read_call (suc (suc (suc k))) F input = Err (placeless OutOfRange)
+
+-- the refusal of a reading, if any
+abbrev pub refusal_of : Res (Unit {0}) Refusal → Option Refusal
+refusal_of (Ok u) = None
+refusal_of (Err r) = Some r
+
+-- what is told of a reading: the refusal's number, or 0, and its place
+pub record ToldReading (r : Res (Unit {0}) Refusal) (n place : ℕ) : Type 0 where
+  pub number : n ≡ refusal_number (refusal_of r)
+  pub at : place_at place ≡ refusal_place (refusal_of r)

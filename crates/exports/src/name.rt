@@ -1,14 +1,13 @@
 // The call Name, answered in numbers.
-ghost use Rattle.std.specs.Prelude.{◌≡◌};
 ghost use Rattle.names.specs.CallAnswer.{name_call};
-ghost use Rattle.exports.specs.Linked.{answer_in};
+ghost use Rattle.exports.specs.Linked.{Answers};
 
 use crate::tell::tell;
 use names::call::name_call;
 
 // Writes the name that `gensym` makes at the front of the result buffer.
 pub fn rename_name(name: &[u8], counter: u64, res: &mut [u8], told: &mut [u64; 4]) -> u32
-    ensures { (answer_in result told.new, res.new) ≡ name_call name.now counter res.old }
+    ensures { Answers (name_call name.now counter res.old) result told.new res.new }
 {
     let a = name_call(name, counter, res);
     tell(a, told)

@@ -1,7 +1,7 @@
 // The call Page, answered in numbers.
-ghost use Rattle.std.specs.Prelude.{◌≡◌, length};
+ghost use Rattle.std.specs.Prelude.{length};
 ghost use Rattle.outline.specs.Page.{page_call};
-ghost use Rattle.exports.specs.Linked.{answer_in};
+ghost use Rattle.exports.specs.Linked.{Answers};
 
 use crate::tell::tell;
 use outline::page::page_call;
@@ -14,7 +14,7 @@ pub fn rename_page(
     res: &mut [u8],
     told: &mut [u64; 4],
 ) -> u32
-    ensures { (answer_in result told.new, res.new) ≡ page_call f (length work.old) input.now res.old }
+    ensures { Answers (page_call f (length work.old) input.now res.old) result told.new res.new }
 {
     let a = page_call(f, work, input, res);
     tell(a, told)

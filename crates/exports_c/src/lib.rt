@@ -1,21 +1,20 @@
 // The static library that C links: the functions of `exports`, under the names that include/rename.h
-// declares, each with its clauses.
+// declares, each with its clauses, since C calls each by its name.
 #![tactic(auto)]
 
-ghost use Rattle.std.specs.Prelude.{◌≡◌, length};
+ghost use Rattle.std.specs.Prelude.{length};
 ghost use Rattle.names.specs.CallAnswer.{name_call};
-ghost use Rattle.names.specs.Refusals.{place_at, refusing};
 ghost use Rattle.ordering.specs.OrderCall.{order_call};
 ghost use Rattle.ordering.specs.OrderMeans.{OrderMeans};
 ghost use Rattle.outline.specs.Page.{page_call};
 ghost use Rattle.walk.specs.Assigns.{AssignsOrdered};
 ghost use Rattle.walk.specs.Calls.{whole_call, children_call, helper_call, whole_visits, children_visits, helper_visits};
-ghost use Rattle.exports.specs.Linked.{answer_in, refusal_in, read_call, Hands};
+ghost use Rattle.exports.specs.Linked.{Answers, Hands, answer_in, refusal_in, read_call, ToldReading};
 
 // Writes the name that `gensym` makes at the front of the result buffer.
 #[unsafe(no_mangle)]
 pub extern "C" fn rename_name(name: &[u8], counter: u64, res: &mut [u8], told: &mut [u64; 4]) -> u32
-    ensures { (answer_in result told.new, res.new) ≡ name_call name.now counter res.old }
+    ensures { Answers (name_call name.now counter res.old) result told.new res.new }
 {
     exports::name::rename_name(name, counter, res, told)
 }
@@ -94,7 +93,7 @@ pub extern "C" fn rename_page(
     res: &mut [u8],
     told: &mut [u64; 4],
 ) -> u32
-    ensures { (answer_in result told.new, res.new) ≡ page_call f (length work.old) input.now res.old }
+    ensures { Answers (page_call f (length work.old) input.now res.old) result told.new res.new }
 {
     exports::page::rename_page(f, work, input, res, told)
 }
@@ -102,7 +101,7 @@ pub extern "C" fn rename_page(
 // Reads an input: the refusal's number, or 0, and its place.
 #[unsafe(no_mangle)]
 pub extern "C" fn rename_read(kind: u8, input: &[u8], f: usize, place: &mut u64) -> u32
-    ensures { refusing result (place_at place.new) ≡ read_call kind f input.now }
+    ensures { ToldReading (read_call kind f input.now) result place.new }
 {
     exports::read::rename_read(kind, input, f, place)
 }

@@ -7,13 +7,13 @@ use borrow.Author.Tests.{le-leb, lt-leb}
 use lib.ListN.{length, drop, length-append}
 use Rattle.names.specs.CallAnswer.{accepted_answer, delivered, max_counter, name_call, refused_answer, written}
 use Rattle.names.specs.Names.{Bytes, gensym, name_limit}
-use Rattle.names.specs.Refusals.{placeless}
+use Rattle.names.specs.Refusals.{OutOfRange, LongName, ShortBuffer, placeless}
 use Rattle.names.specs.declared.Answer.{Answer}
 use Rattle.names.proofs.Order.{lt_or_le}
 
 -- a result that is delivered
 module _ (counter : ℕ) (buffer bs : Bytes) (c : ℕ) where
-  pub delivered_short : length buffer < length bs → delivered counter buffer bs c ≡ refused_answer counter buffer (placeless 8)
+  pub delivered_short : length buffer < length bs → delivered counter buffer bs c ≡ refused_answer counter buffer (placeless ShortBuffer)
   unfolding delivered
   delivered_short lt = rw (lt-leb (length bs) (length buffer) lt, delivered)
 
@@ -32,11 +32,11 @@ module _ (counter : ℕ) (buffer bs : Bytes) (c : ℕ) where
 
 -- the call Name
 module _ (n : Bytes) (c : ℕ) (buffer : Bytes) where
-  pub name_call_counter : max_counter < c → name_call n c buffer ≡ refused_answer c buffer (placeless 1)
+  pub name_call_counter : max_counter < c → name_call n c buffer ≡ refused_answer c buffer (placeless OutOfRange)
   unfolding name_call
   name_call_counter lt = rw (lt-leb c max_counter lt, name_call)
 
-  pub name_call_long : c ≤ max_counter → name_limit < length (gensym n c) → name_call n c buffer ≡ refused_answer c buffer (placeless 6)
+  pub name_call_long : c ≤ max_counter → name_limit < length (gensym n c) → name_call n c buffer ≡ refused_answer c buffer (placeless LongName)
   unfolding name_call
   name_call_long le lt = rw (le-leb c max_counter le, lt-leb (length (gensym n c)) name_limit lt, name_call)
 

@@ -90,6 +90,7 @@ pub fn put_number(mem: &mut [u8], at: usize, width: usize, n: usize)
 {
     let mut left = n;
     for i in (at..at + width).rev() {
+        // A cast: what is narrowed fits, and TryFrom would answer an error that cannot come.
         mem[i] = (left % 256) as u8;
         left /= 256;
     }

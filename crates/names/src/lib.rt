@@ -33,18 +33,35 @@ pub struct Place {
     pub start: u64,
 }
 
-// A refusal: its number and its place. The number is 0 where nothing is refused.
+// Why an input is refused: F, the length of work memory or the counter is out of its range; the input
+// is not exactly one record of the kind asked for; a limit is passed; a BM stands in a binding body of
+// an assign; an assign's bindings have no order; a made name, or a record, would be too long; the
+// result buffer is too short for a result, or for a page.
+#[derive(Clone, Copy, PartialEq, Eq)]
+pub enum Reason {
+    OutOfRange,
+    NotOneRecord,
+    PastLimit,
+    ModInBinding,
+    Deadlock,
+    LongName,
+    LongRecord,
+    ShortBuffer,
+    ShortPage,
+}
+
+// A refusal: its reason and its place.
 #[derive(Clone, Copy, PartialEq, Eq)]
 pub struct Refusal {
-    pub number: u32,
+    pub reason: Reason,
     pub place: Place,
 }
 
-// What a call answers: its refusal, the counter to go on from, the rounds of an order, and how many
-// bytes it wrote at the front of the result buffer.
-#[derive(Clone, Copy)]
+// What a call answers: its refusal, if any, the counter to go on from, the rounds of an order, and how
+// many bytes it wrote at the front of the result buffer. No Result: an order that is refused writes too.
+#[derive(Clone, Copy, PartialEq, Eq)]
 pub struct Answer {
-    pub refusal: Refusal,
+    pub refusal: Option<Refusal>,
     pub counter: u64,
     pub rounds: u64,
     pub len: usize,

@@ -27,6 +27,7 @@ fn put_decimal(out: &mut [u8], at: usize, n: u64)
 {
     let mut left = n;
     for i in (at..at + digit_count(n)).rev() {
+        // A cast: what is narrowed fits, and TryFrom would answer an error that cannot come.
         out[i] = b'0' + (left % 10) as u8;
         left /= 10;
     }

@@ -1,8 +1,8 @@
-// Places and refusals, each made in one function.
+// Places and refusals, each made in one function, and the numbers by which they are told.
 ghost use Rattle.std.specs.Prelude.{◌≡◌};
-ghost use Rattle.names.specs.Refusals.{place_at, refusing, placeless, no_refusal};
+ghost use Rattle.names.specs.Refusals.{place_at, refusing, placeless, reason_number, refusal_number, refusal_place};
 
-use crate::{Place, Refusal};
+use crate::{Place, Reason, Refusal};
 
 // The offset of a byte in the input, or the number of a location.
 pub fn place_at(start: u64) -> Place
@@ -11,23 +11,55 @@ pub fn place_at(start: u64) -> Place
     Place { start }
 }
 
-// A refusal's number and place.
-pub fn refusing(number: u32, place: Place) -> Refusal
-    ensures { result ≡ refusing number place }
+// A refusal's reason and place.
+pub fn refusing(reason: Reason, place: Place) -> Refusal
+    ensures { result ≡ refusing reason place }
 {
-    Refusal { number, place }
+    Refusal { reason, place }
 }
 
 // A refusal that names no place.
-pub fn placeless(number: u32) -> Refusal
-    ensures { result ≡ placeless number }
+pub fn placeless(reason: Reason) -> Refusal
+    ensures { result ≡ placeless reason }
 {
-    refusing(number, place_at(0))
+    refusing(reason, place_at(0))
 }
 
-// Nothing is refused.
-pub fn no_refusal() -> Refusal
-    ensures { result ≡ no_refusal }
+impl From<Reason> for u32 {
+    ghost from_gives = { λ reason result. result ≡ reason_number reason };
+
+    // The number of a reason.
+    fn from(reason: Reason) -> u32 {
+        match reason {
+            Reason::OutOfRange => 1,
+            Reason::NotOneRecord => 2,
+            Reason::PastLimit => 3,
+            Reason::ModInBinding => 4,
+            Reason::Deadlock => 5,
+            Reason::LongName => 6,
+            Reason::LongRecord => 7,
+            Reason::ShortBuffer => 8,
+            Reason::ShortPage => 9,
+        }
+    }
+}
+
+// The number of a refusal; 0 where nothing is refused.
+pub fn refusal_number(refusal: Option<Refusal>) -> u32
+    ensures { result ≡ refusal_number refusal }
 {
-    placeless(0)
+    match refusal {
+        Some(r) => u32::from(r.reason),
+        None => 0,
+    }
+}
+
+// The place of a refusal; where nothing is refused, the one that no refusal means.
+pub fn refusal_place(refusal: Option<Refusal>) -> Place
+    ensures { result ≡ refusal_place refusal }
+{
+    match refusal {
+        Some(r) => r.place,
+        None => place_at(0),
+    }
 }

@@ -14,11 +14,13 @@ use Rattle.names.proofs.Places.{at_whole, at_place, at_left, at_right, at_join}
 use Rattle.records.specs.Records.{Binding, BB}
 use Rattle.records.specs.declared.Family.TheVariants.{Body as a_Body}
 use Rattle.records.specs.Parts.{family_part}
-use Rattle.ordering.specs.declared.Listed.{Listed}
+use Rattle.ordering.specs.declared.listed.Listed.{Listed}
+use Rattle.ordering.specs.declared.provides.Provided.{Provided}
 use Rattle.ordering.specs.Assign.{no_binding, body_of, body_at, BodiesAt, all_needs}
 use Rattle.ordering.specs.Items.{Item, item_at, any, keep, gives, needed}
 use Rattle.ordering.specs.Listing.{Lists, all_words}
-use Rattle.ordering.specs.Provisions.{Entries, Provisions, Given, listed_bindings, places, Added}
+use Rattle.ordering.specs.Listed.{Added}
+use Rattle.ordering.specs.Provisions.{Entries, Provisions, Given, listed_bindings, places}
 use Rattle.ordering.specs.Needs.{binding_limit, providers, needs_of, NeedsAt, Starts}
 use Rattle.ordering.specs.Words.{words, item, items, pattern_provides}
 use Rattle.ordering.proofs.NeedLaws.{needs_append}
@@ -53,46 +55,46 @@ all_few : (bs : List Binding) (j : ℕ) → length (all_needs bs (take j bs)) �
 all_few bs j = omega (arith, ap length (all_split bs j), length-append (all_needs bs (take j bs)) (all_needs bs (drop j bs)))
 
 -- what is known after j bodies
-pub record Collected (needs starts : List ℕ) (n j : ℕ) (bs : List Binding) : Type 0 where
-  pub count : n ≡ length (all_needs bs (take j bs))
-  pub there : At needs 0 (all_needs bs (take j bs))
+pub record Collected (needs : Listed ℕ) (starts : List ℕ) (j : ℕ) (bs : List Binding) : Type 0 where
+  pub count : needs.count ≡ length (all_needs bs (take j bs))
+  pub there : At needs.items.now 0 (all_needs bs (take j bs))
   pub starts_at : (k : ℕ) → k < j → get_or starts k 0 ≡ length (all_needs bs (take k bs))
 
 -- none is behind
-pub collected_none : {needs starts : List ℕ} (bs : List Binding) → Collected needs starts 0 0 bs
+pub collected_none : {needs : Listed ℕ} {starts : List ℕ} (bs : List Binding) → needs.count ≡ 0 → Collected needs starts 0 bs
 unfolding all_needs needs_of
-collected_none bs = record { count = refl; there = record { fits = omega arith; there = refl }; starts_at = λ k h. absurd (omega arith) }
+collected_none bs e = record { count = e; there = record { fits = omega arith; there = refl }; starts_at = λ k h. absurd (omega arith) }
 
-module _ {needs starts : List ℕ} {n j : ℕ} {bs : List Binding} (f : Collected needs starts n j bs) (lt : j < length bs) (fits : length (all_needs bs bs) ≤ length needs) where
+module _ {needs : Listed ℕ} {starts : List ℕ} {j : ℕ} {bs : List Binding} (f : Collected needs starts j bs) (lt : j < length bs) (fits : length (all_needs bs bs) ≤ length needs.items.now) where
   -- there is room for the next body's needs
-  next_room : n + length (own_needs bs j) ≤ length needs
+  next_room : needs.count + length (own_needs bs j) ≤ length needs.items.now
   next_room = omega (arith, f.count, all_few bs (suc j), ap length (all_next bs j lt), length-append (all_needs bs (take j bs)) (own_needs bs j))
 
   -- one body more
-  pub collected_next : {needs' : List ℕ} {count : ℕ} → j < length starts → Added needs needs' n (own_needs bs j) count → Collected needs' (set starts j n) count (j + 1) bs
-  collected_next {needs'} {count} h g =
+  pub collected_next : {needs' : Listed ℕ} → j < length starts → Added needs needs' (own_needs bs j) → Collected needs' (set starts j needs.count) (j + 1) bs
+  collected_next {needs'} h g =
       let one : j + 1 ≡ suc j = omega arith in
       let e = all_next bs j lt in
-      let a : At needs' 0 (all_needs bs (take j bs)) = at_below g.filled.frame f.there (omega (arith, f.count)) in
-      let b : At needs' (0 + length (all_needs bs (take j bs))) (own_needs bs j) = filled_at (0 + length (all_needs bs (take j bs))) g.filled next_room (at_whole (own_needs bs j)) (omega arith) (omega (arith, f.count)) in
+      let a : At needs'.items.now 0 (all_needs bs (take j bs)) = at_below g.filled.frame f.there (omega (arith, f.count)) in
+      let b : At needs'.items.now (0 + length (all_needs bs (take j bs))) (own_needs bs j) = filled_at (0 + length (all_needs bs (take j bs))) g.filled next_room (at_whole (own_needs bs j)) (omega arith) (omega (arith, f.count)) in
       record {
         count = rw (one, e) (g.counted ∙ ap (λ (k : ℕ). k + length (own_needs bs j)) f.count ∙ sym (length-append (all_needs bs (take j bs)) (own_needs bs j)));
         there = rw (one, e) (at_join (all_needs bs (take j bs)) (own_needs bs j) a b);
         starts_at = λ k i. elim (dec_lt k j) [
-          | yes q ↦ get_or-set_other starts j k n 0 (λ w. omega (arith, w)) ∙ f.starts_at k q
+          | yes q ↦ get_or-set_other starts j k needs.count 0 (λ w. omega (arith, w)) ∙ f.starts_at k q
           | no q ↦
               let k_is : k ≡ j = omega arith in
-              rw k_is (get_or-set_same starts j n 0 h ∙ f.count)
+              rw k_is (get_or-set_same starts j needs.count 0 h ∙ f.count)
         ];
       }
 
   -- what is listed of the next body, from what `body_needs` promises
-  pub body_added : {s : Bytes} {given bodies needs' : List ℕ} {r : Listed} → Provisions s given bs → BodiesAt s bodies bs
-      → Lists (family_part a_Body) words s given (take (length s - get_or bodies j 0) (drop (get_or bodies j 0) s)) 0 needs needs' n r → Added needs needs' n (own_needs bs j) r.count
-  body_added {s} {given} {bodies} p b g =
+  pub body_added : {given : Provided} {bodies : List ℕ} {needs' : Listed ℕ} {end : ℕ} → Provisions given.bytes.now given.entries.now bs → BodiesAt given.bytes.now bodies bs
+      → Lists (family_part a_Body) words given (take (length given.bytes.now - get_or bodies j 0) (drop (get_or bodies j 0) given.bytes.now)) 0 needs needs' end → Added needs needs' (own_needs bs j)
+  body_added {given} {bodies} p b g =
       let a = b.there j lt in
       let at = get_or bodies j 0 in
-      (g.lists (body_at bs j) (b.valid j lt) (at_part at (length s - at) a (omega arith) (omega (arith, a.fits)))).lists bs p next_room
+      (g.lists (body_at bs j) (b.valid j lt) (at_part at (length given.bytes.now - at) a (omega arith) (omega (arith, a.fits)))).lists bs p next_room
 
 -- what a binding needs are the names of its body
 item_needs : (b : Binding) → (item b).needs ≡ words (body_of b)
@@ -114,33 +116,33 @@ own_is bs i lt =
     ap (λ (xs : List Bytes). map (providers (items bs)) (keep (λ x. any (gives x) (items bs)) xs)) (ap (λ (x : Item). x.needs) (item_of bs i lt) ∙ item_needs (get_or bs i no_binding))
 
 -- all are behind
-module _ {needs starts : List ℕ} {n j : ℕ} {bs : List Binding} (f : Collected needs starts n j bs) (all : j ≡ length bs) (room : j < length starts) where
+module _ {needs : Listed ℕ} {starts : List ℕ} {j : ℕ} {bs : List Binding} (f : Collected needs starts j bs) (all : j ≡ length bs) (room : j < length starts) where
   -- every start, and the end of the last
-  start_at : (k : ℕ) → k ≤ length bs → get_or (set starts j n) k 0 ≡ length (all_needs bs (take k bs))
+  start_at : (k : ℕ) → k ≤ length bs → get_or (set starts j needs.count) k 0 ≡ length (all_needs bs (take k bs))
   start_at k le = elim (dec_lt k j) [
-    | yes q ↦ get_or-set_other starts j k n 0 (λ w. omega (arith, w)) ∙ f.starts_at k q
+    | yes q ↦ get_or-set_other starts j k needs.count 0 (λ w. omega (arith, w)) ∙ f.starts_at k q
     | no q ↦
         let k_is : k ≡ j = omega arith in
-        rw k_is (get_or-set_same starts j n 0 room ∙ f.count)
+        rw k_is (get_or-set_same starts j needs.count 0 room ∙ f.count)
   ]
 
-  pub collected_starts : length bs ≤ binding_limit → length (all_needs bs bs) ≤ length needs → Starts (length bs) needs (set starts j n)
-  collected_starts few fits = record {
+  pub collected_starts : {listed : List ℕ} → length bs ≤ binding_limit → length (all_needs bs bs) ≤ length needs.items.now → listed ≡ needs.items.now → Starts (length bs) listed (set starts j needs.count)
+  collected_starts few fits e = rw e record {
     few = few;
-    many = omega (arith, length-set starts j n);
+    many = omega (arith, length-set starts j needs.count);
     within = λ i le. omega (arith, start_at i le, all_few bs i);
   }
 
-  pub collected_all : NeedsAt (items bs) needs (set starts j n)
-  collected_all = record {
+  pub collected_all : {listed : List ℕ} → listed ≡ needs.items.now → NeedsAt (items bs) listed (set starts j needs.count)
+  collected_all e = rw e record {
     there = λ i lt.
         let h : i < length bs = omega (arith, items_length bs) in
-        let a : At needs 0 (all_needs bs bs) = rw (all, take_all (length bs) bs (omega arith)) at f.there in
+        let a : At needs.items.now 0 (all_needs bs bs) = rw (all, take_all (length bs) bs (omega arith)) at f.there in
         let e : all_needs bs bs ≡ all_needs bs (take i bs) ++ (own_needs bs i ++ all_needs bs (drop (suc i) bs)) =
         all_split bs (suc i) ∙ ap (λ (zs : List ℕ). zs ++ all_needs bs (drop (suc i) bs)) (all_next bs i h) ∙ append_assoc (all_needs bs (take i bs)) (own_needs bs i) (all_needs bs (drop (suc i) bs)) in
-        let r : At needs (0 + length (all_needs bs (take i bs))) (own_needs bs i ++ all_needs bs (drop (suc i) bs)) = at_right (all_needs bs (take i bs)) _ (rw e at a) in
-        let o : At needs (0 + length (all_needs bs (take i bs))) (own_needs bs i) = at_left (own_needs bs i) _ r in
-        rw (own_is bs i h) (at_place (get_or (set starts j n) i 0) (omega (arith, start_at i (omega arith))) o);
+        let r : At needs.items.now (0 + length (all_needs bs (take i bs))) (own_needs bs i ++ all_needs bs (drop (suc i) bs)) = at_right (all_needs bs (take i bs)) _ (rw e at a) in
+        let o : At needs.items.now (0 + length (all_needs bs (take i bs))) (own_needs bs i) = at_left (own_needs bs i) _ r in
+        rw (own_is bs i h) (at_place (get_or (set starts j needs.count) i 0) (omega (arith, start_at i (omega arith))) o);
     next = λ i lt.
         let h : i < length bs = omega (arith, items_length bs) in
         omega (

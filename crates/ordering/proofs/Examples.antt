@@ -6,9 +6,11 @@ use mathlib.Core.Path.{◌≡◌, refl}
 use mathlib.Core.List.Memᴰ
 use mathlib.Core.List.{List, [], ◌∷◌}
 use mathlib.Core.Logic.{inl, inr}
+use Rattle.std.specs.Prelude.{Some}
 use Rattle.names.specs.CallAnswer.{accepted_answer}
 use Rattle.names.specs.Names.{Bytes, computing_names}
 use Rattle.names.specs.Refusals.{refusing}
+use Rattle.names.specs.declared.Reason.TheVariants.{Deadlock}
 use Rattle.names.specs.declared.Place.{Place}
 use Rattle.records.specs.Records.{Body}
 use Rattle.ordering.specs.Items.{Item}
@@ -69,7 +71,7 @@ crossed_stuck = refl
 
 module _ {input : Bytes} {a : Body} (is : IsAssign input a) (c : ℕ) where
   -- no answer: with 5 a stuck binding is left out
-  left_out : (p : Place) → items (bindings_of a) ≡ crossed → ¬ OrderMeans input (record { refusal = refusing 5 p; counter = c; rounds = 0; len = 1 }, 0 ∷ [])
+  left_out : (p : Place) → items (bindings_of a) ≡ crossed → ¬ OrderMeans input (record { refusal = Some (refusing Deadlock p); counter = c; rounds = 0; len = 1 }, 0 ∷ [])
   left_out p e m =
       let s = m.stuck refl in
       let n : NoOrder crossed (0 ∷ []) = rw (← e, ← one_assign s.0 a s.1 is) s.2 in
@@ -92,5 +94,5 @@ module _ {input : Bytes} {a : Body} (is : IsAssign input a) (c : ℕ) where
       omega (arith, chained_rounds)
 
   -- no answer: a deadlock with a round
-  stuck_round : (p : Place) (l : Bytes) → ¬ OrderMeans input (record { refusal = refusing 5 p; counter = c; rounds = 1; len = 2 }, l)
+  stuck_round : (p : Place) (l : Bytes) → ¬ OrderMeans input (record { refusal = Some (refusing Deadlock p); counter = c; rounds = 1; len = 2 }, l)
   stuck_round p l m = let r = m.none (λ z. omega arith) in omega arith

@@ -4,16 +4,18 @@ use mathlib.Core.List.{List, [], ◌∷◌, ◌++◌, map, map-append}
 use mathlib.Core.Path.{◌≡◌, refl, sym, ap, ◌∙◌}
 use Prim.Native.Nat.{ℕ, ◌+◌, ◌≤◌, ◌<◌}
 use native.Mathlib.Omega.{arith}
-use lib.ListN.{length, set, length-append}
+use lib.ListN.{length, length-append}
 use Rattle.names.specs.Names.{Bytes}
-use Rattle.names.proofs.Frames.{same_refl, filled_set}
-use Rattle.names.proofs.Segments.{filled_then}
 use Rattle.records.specs.Records.{Binding}
 use Rattle.ordering.specs.Items.{Item, any, keep, gives}
 use Rattle.ordering.specs.Needs.{bits, providers, needs_of}
 use Rattle.ordering.specs.Words.{items}
 use Rattle.ordering.specs.Listing.{Names}
-use Rattle.ordering.specs.Provisions.{Provisions, Added}
+use Rattle.ordering.specs.Listed.{AddsOne, Added}
+use Rattle.ordering.specs.Provisions.{Provisions}
+use Rattle.ordering.specs.declared.listed.Listed.{Listed}
+use Rattle.ordering.specs.declared.provides.Provided.{Provided}
+use Rattle.ordering.proofs.EntryLaws.{room_same, room_then, added_none, one_added, added_then}
 
 -- whether a flag is set, and the number of the flags
 abbrev Signs : Bool → ℕ → Type 0
@@ -63,36 +65,34 @@ module _ (bs : List Item) (x : Bytes) where
   unfolding needs_of
   needed = (kept (any (gives x) bs) provided).1
 
-added_none : {l : List ℕ} {n : ℕ} → Added l l n [] n
-added_none = record { counted = omega arith; filled = record { frame = same_refl; got = refl } }
-
 -- names that are listed
-module _ {a : Bytes} {ps : List ℕ} {l : List ℕ} {n : ℕ} where
-  pub names_none : n ≤ length l → Names [] a ps l l n n
+module _ {given : Provided} {l : Listed ℕ} where
+  pub names_none : Names [] given l l
   unfolding needs_of
-  names_none h = record { room = h; lists = λ bs p f. added_none }
+  names_none = record { room = room_same; lists = λ bs p f. added_none }
 
-  -- one name: of no binding; without room; listed
-  module _ {x : Bytes} {r : ℕ} (is : (bs : List Binding) → Provisions a ps bs → r ≡ providers (items bs) x) (h : n ≤ length l) where
-    pub name_unneeded : r ≡ 0 → Names (x ∷ []) a ps l l n n
-    name_unneeded z = record { room = h; lists = λ bs p f. rw (unneeded (items bs) x (sym (is bs p) ∙ z)) added_none }
+  -- one name: of no binding; listed, or without room
+  module _ {x : Bytes} {r : ℕ} (is : (bs : List Binding) → Provisions given.bytes.now given.entries.now bs → r ≡ providers (items bs) x) where
+    pub name_unneeded : r ≡ 0 → Names (x ∷ []) given l l
+    name_unneeded z = record { room = room_same; lists = λ bs p f. rw (unneeded (items bs) x (sym (is bs p) ∙ z)) added_none }
 
-    pub name_full : 0 < r → length l ≤ n → Names (x ∷ []) a ps l l n n
-    name_full z q = record { room = h; lists = λ bs p f. absurd (omega (arith, is bs p, ap length (needed (items bs) x (omega (arith, is bs p))))) }
-
-    pub name_listed : 0 < r → n < length l → Names (x ∷ []) a ps l (set l n r) n (n + 1)
-    name_listed z q = record { room = omega arith; lists = λ bs p f. rw (needed (items bs) x (omega (arith, is bs p)), ← is bs p) (record { counted = refl; filled = filled_set l n r q }) }
+    pub name_listed : {l' : Listed ℕ} → (r ≡ 0 → ⊥) → AddsOne l l' r → Names (x ∷ []) given l l'
+    name_listed z h = record {
+      room = h.room;
+      lists = λ bs p f.
+          let e : needs_of (items bs) (x ∷ []) ≡ r ∷ [] = rw (is bs p) (needed (items bs) x (omega (arith, is bs p))) in
+          rw e (one_added h (omega (arith, ap length e)));
+    }
 
 -- names, and then others
-pub names_then : {xs ys : List Bytes} {a : Bytes} {ps l₀ l₁ l₂ : List ℕ} {n c d : ℕ} → d ≤ length l₀ → Names xs a ps l₀ l₁ n c → Names ys a ps l₁ l₂ c d → Names (xs ++ ys) a ps l₀ l₂ n d
-names_then {xs} {ys} {a} {ps} {l₀} {l₁} {l₂} {n} {c} {d} h f g = record { room = h; lists = go }
+pub names_then : {xs ys : List Bytes} {given : Provided} {l₀ l₁ l₂ : Listed ℕ} → Names xs given l₀ l₁ → Names ys given l₁ l₂ → Names (xs ++ ys) given l₀ l₂
+names_then {xs} {ys} {given} {l₀} {l₁} {l₂} f g = record { room = room_then f.room g.room; lists = go }
   where
-    go : (bs : List Binding) → Provisions a ps bs → n + length (needs_of (items bs) (xs ++ ys)) ≤ length l₀ → Added l₀ l₂ n (needs_of (items bs) (xs ++ ys)) d
+    go : (bs : List Binding) → Provisions given.bytes.now given.entries.now bs → l₀.count + length (needs_of (items bs) (xs ++ ys)) ≤ length l₀.items.now → Added l₀ l₂ (needs_of (items bs) (xs ++ ys))
     go bs p q =
         let us : List ℕ = needs_of (items bs) xs in
         let vs : List ℕ = needs_of (items bs) ys in
         let e : needs_of (items bs) (xs ++ ys) ≡ us ++ vs = needs_append (items bs) xs ys in
         let k : length (needs_of (items bs) (xs ++ ys)) ≡ length us + length vs = ap length e ∙ length-append us vs in
         let u = f.lists bs p (omega arith) in
-        let v = g.lists bs p (omega (arith, u.counted, u.filled.frame.size)) in
-        rw e (record { counted = omega (arith, u.counted, v.counted, length-append us vs); filled = filled_then u.filled v.filled u.counted (omega (arith, length-append us vs)) })
+        rw e (added_then us vs u (g.lists bs p (omega (arith, u.counted, f.room.size))) (omega arith))

@@ -10,7 +10,8 @@ use lib.ListN.{length, take, drop, length-append}
 use lib.Seq.{take-append_seam}
 use Rattle.names.specs.CallAnswer.{CallResult, refused_answer, written}
 use Rattle.names.specs.Names.{Bytes}
-use Rattle.names.specs.Refusals.{place_at, placeless}
+use Rattle.names.specs.Refusals.{place_at, placeless, reason_number}
+use Rattle.names.specs.declared.Reason.TheVariants.{ShortBuffer}
 use Rattle.names.specs.declared.Refusal.{Refusal}
 use Rattle.records.specs.Opened.{Opened, opened, closed, open_input}
 use Rattle.records.specs.Read.{assign_of}
@@ -37,7 +38,7 @@ module _ (is buffer : Bytes) where
 
 module _ (c : ℕ) (buffer : Bytes) where
   -- what holds of each of the three answers for an assign that is read
-  of_read : (P : CallResult → Type 0) (a : Body) → P (refused_answer c buffer (placeless 8))
+  of_read : (P : CallResult → Type 0) (a : Body) → P (refused_answer c buffer (placeless ShortBuffer))
       → ((is : List ℕ) → toposort_assign_bindings (bindings_of a) ≡ ordered is → P (order_answer c buffer (rounds (items (bindings_of a))) is))
       → ((is : List ℕ) → toposort_assign_bindings (bindings_of a) ≡ deadlock is → P (stuck_answer c (place_at (loc_number (let_loc a))) buffer is))
       → P (order_of c buffer a)
@@ -56,12 +57,12 @@ module _ (c : ℕ) (buffer : Bytes) where
       go₂ (ordered is) e = found is e
 
       go : (b : Bool)
-          → P (elim b as (λ _. CallResult) [ false ↦ refused_answer c buffer (placeless 8) | true ↦ by_outcome (toposort_assign_bindings (bindings_of a)) ])
+          → P (elim b as (λ _. CallResult) [ false ↦ refused_answer c buffer (placeless ShortBuffer) | true ↦ by_outcome (toposort_assign_bindings (bindings_of a)) ])
       go true = go₂ (toposort_assign_bindings (bindings_of a)) refl
       go false = short
 
   -- and of every answer of the call
-  of_call : (P : CallResult → Type 0) (F work : ℕ) (input : Bytes) → ((r : Refusal) → 1 ≤ r.number → r.number ≤ 4 → P (refused_answer c buffer r))
+  of_call : (P : CallResult → Type 0) (F work : ℕ) (input : Bytes) → ((r : Refusal) → 1 ≤ reason_number r.reason → reason_number r.reason ≤ 4 → P (refused_answer c buffer r))
       → ((a : Body) → open_input assign_of F work c input ≡ opened a → P (order_of c buffer a)) → P (order_call F work c input buffer)
   unfolding order_call
   of_call P F work input refused read = go (open_input assign_of F work c input) refl (start assign_of F work c input)
@@ -73,14 +74,14 @@ module _ (c : ℕ) (buffer : Bytes) where
 
   module _ {input : Bytes} where
     -- a refusal by another number than 5 means nothing
-    refused_means : (r : Refusal) → (r.number ≡ 0 → ⊥) → (r.number ≡ 5 → ⊥) → OrderMeans input (refused_answer c buffer r)
+    refused_means : (r : Refusal) → (reason_number r.reason ≡ 0 → ⊥) → (reason_number r.reason ≡ 5 → ⊥) → OrderMeans input (refused_answer c buffer r)
     unfolding refused_answer
     refused_means r z f = record { within = omega arith; order = λ e. absurd (z e); stuck = λ e. absurd (f e); none = λ _. refl }
 
     read_means : (a : Body) → IsAssign input a → OrderMeans input (order_of c buffer a)
     unfolding stuck_answer order_answer toposort_assign_bindings
     read_means a w =
-        of_read (OrderMeans input) a (refused_means (placeless 8) (λ z. omega arith) (λ f. omega arith))
+        of_read (OrderMeans input) a (refused_means (placeless ShortBuffer) (λ z. omega arith) (λ f. omega arith))
         (λ is e. record {
           within = written_fits is buffer;
           order = λ _. (a, w, rw (written_is is buffer) (sound (items (bindings_of a)) is e), refl);

@@ -9,6 +9,7 @@ use lib.Seq.{length-take-le}
 use Rattle.names.specs.CallAnswer.{CallResult, refused_answer, accepted_answer}
 use Rattle.names.specs.Names.{Bytes, number_of}
 use Rattle.names.specs.Refusals.{place_at, refusing, placeless}
+use Rattle.names.specs.declared.Reason.TheVariants.{Deadlock, ShortBuffer}
 use Rattle.names.specs.declared.Place.{Place}
 use Rattle.names.specs.declared.Refusal.{Refusal}
 use Rattle.names.specs.Segments.{At, Filled}
@@ -17,10 +18,11 @@ use Rattle.names.proofs.Segments.{filled_written}
 use Rattle.records.specs.Limits.{most_longest}
 use Rattle.records.specs.Opened.{Opened, opened, closed, open_input}
 use Rattle.records.specs.Read.{assign_of}
-use Rattle.records.specs.Records.{Loc, loc_width, loc_number, Kind, Body, BL, BQ, BV, BC, BM, BF, Binding, Bindings, list_of, body_bytes}
+use Rattle.records.specs.Records.{Loc, loc_width, loc_number, Body, BL, BQ, BV, BC, BM, BF, Binding, Bindings, list_of, body_bytes}
+use Rattle.records.specs.declared.Kind.{Kind}
 use Rattle.records.specs.Scan.{opening_of}
 use Rattle.records.specs.Valid.{AreBytes, BodyFields, IsLet, ValidAssign}
-use Rattle.std.specs.Prelude.{Ok, Err}
+use Rattle.std.specs.Prelude.{Some, Ok, Err}
 use Rattle.records.proofs.Accepted.{assign_format, opened_valid}
 use Rattle.records.proofs.Opened.{OpenedFrom, start}
 use Rattle.records.specs.Views.{SeesLet}
@@ -41,13 +43,13 @@ module _ {before after : Bytes} {c : ℕ} where
   order_written is e f = rw (← e, filled_written f) refl
 
   -- the stuck ones are
-  pub stuck_written : {place : Place} {count : ℕ} (is : Bytes) → length is ≡ count → Filled before after 0 is (length is) → (record { refusal = refusing 5 place; counter = c; rounds = 0; len = count }, after) ≡ stuck_answer c place before is
+  pub stuck_written : {place : Place} {count : ℕ} (is : Bytes) → length is ≡ count → Filled before after 0 is (length is) → (record { refusal = Some (refusing Deadlock place); counter = c; rounds = 0; len = count }, after) ≡ stuck_answer c place before is
   unfolding stuck_answer
   stuck_written is e f = rw (← e, filled_written f) refl
 
 module _ (c : ℕ) (buffer : Bytes) (k : Kind) (l : Loc) (w h : Bytes) (bs : Bindings) (b : Body) where
   -- the buffer is too short
-  pub order_short : length buffer < length (list_of bs) → order_of c buffer (BL k l w h bs b) ≡ refused_answer c buffer (placeless 8)
+  pub order_short : length buffer < length (list_of bs) → order_of c buffer (BL k l w h bs b) ≡ refused_answer c buffer (placeless ShortBuffer)
   unfolding order_of bindings_of
   order_short lt = rw (lt-leb (length (list_of bs)) (length buffer) lt, order_of)
 

@@ -18,9 +18,10 @@ use Rattle.records.specs.declared.SexpView.{SexpView}
 use Rattle.records.specs.declared.SexpView.TheVariants.{Nil, Pair, Unknown}
 use Rattle.records.proofs.AnySexp.{Leaf, integer, text, name, leaf_places, unseen}
 use Rattle.records.proofs.Views.{first_of, rest_of}
-use Rattle.ordering.specs.Provisions.{places, AddsOne, ListsNames}
+use Rattle.ordering.specs.Listed.{AddsOne}
+use Rattle.ordering.specs.Provisions.{places, ListsNames}
 use Rattle.ordering.specs.Words.{make_provides_set, pattern_provides}
-use Rattle.ordering.specs.declared.Listed.{Listed}
+use Rattle.ordering.specs.declared.listed.Listed.{Listed}
 use Rattle.ordering.proofs.EntryLaws.{Lists, adds_then, lists_then, OneName, lists_one, lists_none}
 
 -- an SI, SQ or SA: its bytes, which are what it provides
@@ -76,9 +77,9 @@ module _ (a : Bytes) (at : ℕ) {v : SexpView} (le : at ≤ length a) (h : SeesS
     pub leaf_in : BytesIn (length a - at) b
     leaf_in = let p = leaf_places k seen.places in record { moved = p.moved; forward = p.forward; within = omega (arith, p.within, length-drop at a) }
 
-    pub leaf_names : {before after : List ℕ} {n count : ℕ} → 0 < at → length a < places → n ≤ length before → AddsOne before after n (places * (at + b.start) + (at + b.end)) count
-        → ListsNames fields_part make_provides_set a at before after n (record { count = count; end = at + b.end })
-    leaf_names p small room f = let i = leaf_in in lists_one small room (omega (arith, i.within)) (omega arith) (omega arith) (omega (arith, i.forward)) f go
+    pub leaf_names : {before after : Listed ℕ} → 0 < at → length a < places → AddsOne before after (places * (at + b.start) + (at + b.end))
+        → ListsNames fields_part make_provides_set a at before after (at + b.end)
+    leaf_names p small f = let i = leaf_in in lists_one (omega (arith, i.within)) small (omega arith) (omega arith) (omega (arith, i.forward)) f go
       where
         go : (t : Sexp) → SexpFields t → At a at (sexp_bytes t) → OneName a (at + b.start) (at + b.end) (at + length (sexp_bytes t)) (make_provides_set t)
         go t f w =
@@ -93,44 +94,44 @@ module _ (a : Bytes) (at : ℕ) (le : at ≤ length a) where
   pub nil_in : {e : ℕ} → Sees (Nil e) → at + e ≤ length a
   nil_in h = omega (arith, (seen a at le h).places.1, length-drop at a)
 
-  pub nil_names : {before : List ℕ} {n e : ℕ} → Sees (Nil e) → length a < places → n ≤ length before → ListsNames fields_part make_provides_set a at before before n (record { count = n; end = at + e })
-  nil_names h small room =
-      lists_none small room (nil_in h) (omega arith)
+  pub nil_names : {l : Listed ℕ} {e : ℕ} → Sees (Nil e) → ListsNames fields_part make_provides_set a at l l (at + e)
+  nil_names h =
+      lists_none (nil_in h) (omega arith)
       λ t f w. let q = nil_provides (sees_at a at le h t f w) in (omega (arith, q.0), q.1)
 
-  pub no_names : {before : List ℕ} {n : ℕ} → Sees Unknown → length a < places → n ≤ length before → ListsNames fields_part make_provides_set a at before before n (record { count = n; end = length a })
-  no_names h small room = lists_none small room (omega arith) le λ t f w. absurd (unseen (sees_at a at le h t f w))
+  pub no_names : {l : Listed ℕ} → Sees Unknown → ListsNames fields_part make_provides_set a at l l (length a)
+  no_names h = lists_none (omega arith) le λ t f w. absurd (unseen (sees_at a at le h t f w))
 
   -- where the head of an SC stands
   pub head_in : {p : ℕ} → Sees (Pair p) → (0 < p) × (at + p ≤ length a)
   head_in h = let p = (seen a at le h).places in (p.0, omega (arith, p.1, length-drop at a))
 
-  pub pair_names : {before mid after : List ℕ} {n p : ℕ} {x y : Listed} → Sees (Pair p) → ListsNames fields_part make_provides_set a (at + p) before mid n x
-      → ListsNames fields_part make_provides_set a x.end mid after x.count y → ListsNames fields_part make_provides_set a at before after n y
-  pair_names {before} {after = after} {n} {x = x} {y} h f g = record {
+  pub pair_names : {before mid after : Listed ℕ} {p x y : ℕ} → Sees (Pair p) → ListsNames fields_part make_provides_set a (at + p) before mid x
+      → ListsNames fields_part make_provides_set a x mid after y → ListsNames fields_part make_provides_set a at before after y
+  pair_names {before} {after = after} {x = x} h f g = record {
     forward = omega (arith, f.forward, g.forward);
     within = g.within;
     adds = adds_then f.adds g.adds;
     ends = λ t k w.
         let o = as_pair a at le k (sees_at a at le h t k w) in
         let e = f.ends o.head o.head_fields o.head_at in
-        omega (arith, o.whole, e, g.ends o.tail o.tail_fields (at_place x.end (sym e) o.tail_at));
+        omega (arith, o.whole, e, g.ends o.tail o.tail_fields (at_place x (sym e) o.tail_at));
     lists = λ t k w room.
         let o = as_pair a at le k (sees_at a at le h t k w) in
         let l : length (make_provides_set t) ≡ length (make_provides_set o.head) + length (make_provides_set o.tail) =
         ap length o.provides ∙ length-append (make_provides_set o.head) (make_provides_set o.tail) in
         let e = f.ends o.head o.head_fields o.head_at in
-        subst (λ (xs : List Bytes). Lists a before after n xs y.count) (sym o.provides)
+        subst (λ (xs : List Bytes). Lists a before after xs) (sym o.provides)
         (lists_then a (make_provides_set o.head) (make_provides_set o.tail) f.adds.frame.size (f.lists o.head o.head_fields o.head_at (omega arith))
-        (g.lists o.tail o.tail_fields (at_place x.end (sym e) o.tail_at)) (omega arith));
+        (g.lists o.tail o.tail_fields (at_place x (sym e) o.tail_at)) (omega arith));
   }
 
 -- the pattern at a place in the assign
 module _ (a : Bytes) (at : ℕ) where
   -- no byte is left
-  pub no_pattern : {before : List ℕ} {n : ℕ} → at ≤ length a → length a < places → n ≤ length before → length a ≤ at → ListsNames pattern_part pattern_provides a at before before n (record { count = n; end = at })
+  pub no_pattern : {l : Listed ℕ} → at ≤ length a → length a ≤ at → ListsNames pattern_part pattern_provides a at l l at
   unfolding pattern_field
-  no_pattern w small room le = lists_none small room w (omega arith) λ p v k. absurd (go p k)
+  no_pattern w le = lists_none w (omega arith) λ p v k. absurd (go p k)
     where
       go : (p : Pattern) → At a at (pattern_field p) → ⊥
       go (Name x) w = omega (arith, w.fits)
@@ -143,11 +144,11 @@ module _ (a : Bytes) (at : ℕ) where
   behind : {b : ℕ} {bs : Bytes} → At a at (b ∷ bs) → At a (at + 1) bs
   behind {b} {bs} w = at_right (b ∷ []) bs w
 
-  pub name_names : {v : NameView} {before after : List ℕ} {n count : ℕ} → length a < places → n ≤ length before → at < length a → get_or a at 0 ≡ 0 → SeesName (take (length a - (at + 1)) (drop (at + 1) a)) 0 v
-      → AddsOne before after n (places * (at + 1 + v.start) + (at + 1 + v.end)) count → ListsNames pattern_part pattern_provides a at before after n (record { count = count; end = at + 1 + v.end })
+  pub name_names : {v : NameView} {before after : Listed ℕ} → length a < places → at < length a → get_or a at 0 ≡ 0 → SeesName (take (length a - (at + 1)) (drop (at + 1) a)) 0 v
+      → AddsOne before after (places * (at + 1 + v.start) + (at + 1 + v.end)) → ListsNames pattern_part pattern_provides a at before after (at + 1 + v.end)
   unfolding pattern_field pattern_provides ValidPattern
-  name_names {v} small room lt q h k =
-      lists_one small room (omega (arith, seen.within, length-drop (at + 1) a)) (omega arith) (omega arith) (omega (arith, seen.forward)) k go
+  name_names {v} small lt q h k =
+      lists_one (omega (arith, seen.within, length-drop (at + 1) a)) small (omega arith) (omega arith) (omega (arith, seen.forward)) k go
     where
       next : at + 1 ≤ length a
       next = omega arith
@@ -161,14 +162,14 @@ module _ (a : Bytes) (at : ℕ) where
           record { name = x; only = refl; there = at_from_drop (at + 1) next s.bytes; ends = omega (arith, s.ends); whole = omega (arith, s.past) }
       go (Complex t) f w = absurd (omega (arith, tag_is w))
 
-  pub complex_names : {before after : List ℕ} {n : ℕ} {r : Listed} → (get_or a at 0 ≡ 0 → ⊥) → ListsNames fields_part make_provides_set a (at + 1) before after n r → ListsNames pattern_part pattern_provides a at before after n r
+  pub complex_names : {before after : Listed ℕ} {end : ℕ} → (get_or a at 0 ≡ 0 → ⊥) → ListsNames fields_part make_provides_set a (at + 1) before after end → ListsNames pattern_part pattern_provides a at before after end
   unfolding pattern_field pattern_provides ValidPattern
-  complex_names {before} {after} {n} {r} q f = record { forward = omega (arith, f.forward); within = f.within; adds = f.adds; ends = ends; lists = lists }
+  complex_names {before} {after} {end} q f = record { forward = omega (arith, f.forward); within = f.within; adds = f.adds; ends = ends; lists = lists }
     where
-      ends : (p : Pattern) → ValidPattern p → At a at (pattern_field p) → r.end ≡ at + length (pattern_field p)
+      ends : (p : Pattern) → ValidPattern p → At a at (pattern_field p) → end ≡ at + length (pattern_field p)
       ends (Name x) v w = absurd (q (tag_is w))
       ends (Complex t) v w = omega (arith, f.ends t v.0 (behind w))
 
-      lists : (p : Pattern) → ValidPattern p → At a at (pattern_field p) → n + length (pattern_provides p) ≤ length before → Lists a before after n (pattern_provides p) r.count
+      lists : (p : Pattern) → ValidPattern p → At a at (pattern_field p) → before.count + length (pattern_provides p) ≤ length before.items.now → Lists a before after (pattern_provides p)
       lists (Name x) v w room = absurd (q (tag_is w))
       lists (Complex t) v w room = f.lists t v.0 (behind w) room

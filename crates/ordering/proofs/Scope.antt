@@ -5,7 +5,7 @@ use native.Mathlib.Omega.{arith}
 use Prim.Native.Nat.{ℕ, ◌<◌}
 use lib.ListN.{length, get_or}
 use Rattle.names.specs.Names.{Bytes}
-use Rattle.records.specs.Records.{Assign}
+use Rattle.records.specs.declared.Kind.TheVariants.{Assign}
 use Rattle.ordering.specs.Items.{Item}
 use Rattle.ordering.specs.Lawful.{◌is_in◌, Provides, Needs, OfAll, Lawful, Full}
 use Rattle.ordering.specs.Scope.{in_binding, InScope}

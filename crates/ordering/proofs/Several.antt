@@ -14,9 +14,12 @@ use Rattle.records.specs.Records.{Bodies, []ᵇ, ◌∷ᵇ◌, bodies_bytes, bod
 use Rattle.records.specs.Valid.{BodiesFields, BindingsFields, bodies_lambda_depth, bindings_lambda_depth}
 use Rattle.records.specs.Lists.{joined, Each}
 use Rattle.records.specs.Parts.{Part, list_part}
-use Rattle.ordering.specs.declared.Listed.{Listed}
+use Rattle.ordering.specs.declared.listed.Listed.{Listed}
+use Rattle.ordering.specs.declared.provides.Provided.{Provided}
+use Rattle.ordering.specs.Listed.{SameRoom}
 use Rattle.ordering.specs.Listing.{Names, Reaches, member_part, all_words}
 use Rattle.ordering.specs.Words.{words, bodies_words, binding_words, bindings_words}
+use Rattle.ordering.proofs.EntryLaws.{room_same, room_then}
 use Rattle.ordering.proofs.NeedLaws.{names_none, names_then}
 
 -- trees as a list: as many, each meant, with the same bytes and the same names
@@ -53,32 +56,32 @@ several_bindings []ᵍ v d k = several_none
 several_bindings (b ∷ᵍ bs) v d k = several_more b (v.0, omega arith, omega arith) (several_bindings bs v.1 (omega arith) (omega arith))
 
 -- what is listed of several
-pub several_told : {p : Part} {names : p.0 → List Bytes} {m n c at : ℕ} {bs : Bytes} {ws : List Bytes} {a : Bytes} {ps : List ℕ} {s : Bytes} {l l' : List ℕ} {r : Listed}
-    → Reaches 1 (list_part p m) (all_words names) a ps s at l l' c r → m ≡ n → Several p names n bs ws → 0 < at → At s at bs → (r.end ≡ at + length bs) × Names ws a ps l l' c r.count
+pub several_told : {p : Part} {names : p.0 → List Bytes} {m n at end : ℕ} {bs : Bytes} {ws : List Bytes} {given : Provided} {s : Bytes} {l l' : Listed ℕ}
+    → Reaches 1 (list_part p m) (all_words names) given s at l l' end → m ≡ n → Several p names n bs ws → 0 < at → At s at bs → (end ≡ at + length bs) × Names ws given l l'
 several_told {at = at} f q l z k =
     let h = f.tells z l.trees (l.count ∙ sym q, l.each) (rw l.bytes k) in
     (h.0 ∙ ap (λ (x : Bytes). at + length x) l.bytes, rw l.same at h.1)
 
--- of m trees i are behind, with their names listed; the others stand from r.end on, and end at `total`
-pub record Going (p : Part) (names : p.0 → List Bytes) (a : Bytes) (ps : List ℕ) (s : Bytes) (i m total : ℕ) (ws : List Bytes) (before after : List ℕ) (n : ℕ) (r : Listed) : Type 0 where
+-- of m trees i are behind, with their names listed; the others stand from `at` on, and end at `total`
+pub record Going (p : Part) (names : p.0 → List Bytes) (given : Provided) (s : Bytes) (i m total : ℕ) (ws : List Bytes) (before after : Listed ℕ) (at : ℕ) : Type 0 where
   pub rest : List p.0
   pub done : List Bytes
   pub count : i + length rest ≡ m
   pub each : Each p.2 rest
-  pub there : At s r.end (joined p.1 rest)
-  pub moved : 0 < r.end
-  pub ends : r.end + length (joined p.1 rest) ≡ total
-  pub listed : Names done a ps before after n r.count
+  pub there : At s at (joined p.1 rest)
+  pub moved : 0 < at
+  pub ends : at + length (joined p.1 rest) ≡ total
+  pub listed : Names done given before after
   pub same : done ++ all_words names rest ≡ ws
 
-module _ {p : Part} {names : p.0 → List Bytes} {a : Bytes} {ps : List ℕ} {s : Bytes} {m : ℕ} {before : List ℕ} {n : ℕ} where
-  going_more : {i total : ℕ} {ws : List Bytes} {l l' : List ℕ} {r r' : Listed} → i < m → Reaches 1 p names a ps s r.end l l' r.count r' → length l ≡ length before
-      → Going p names a ps s i m total ws before l n r → Going p names a ps s (i + 1) m total ws before l' n r'
+module _ {p : Part} {names : p.0 → List Bytes} {given : Provided} {s : Bytes} {m : ℕ} {before : Listed ℕ} where
+  going_more : {i total at end : ℕ} {ws : List Bytes} {l l' : Listed ℕ} → i < m → Reaches 1 p names given s at l l' end
+      → Going p names given s i m total ws before l at → Going p names given s (i + 1) m total ws before l' end
   unfolding Each joined
-  going_more {i} {total} {ws} {l} {l'} {r} {r'} q f e g = go g.rest g.count g.each g.there g.ends g.same
+  going_more {i} {total} {at} {end} {ws} {l} {l'} q f g = go g.rest g.count g.each g.there g.ends g.same
     where
-      go : (ts : List p.0) → i + length ts ≡ m → Each p.2 ts → At s r.end (joined p.1 ts) → r.end + length (joined p.1 ts) ≡ total → g.done ++ all_words names ts ≡ ws
-          → Going p names a ps s (i + 1) m total ws before l' n r'
+      go : (ts : List p.0) → i + length ts ≡ m → Each p.2 ts → At s at (joined p.1 ts) → at + length (joined p.1 ts) ≡ total → g.done ++ all_words names ts ≡ ws
+          → Going p names given s (i + 1) m total ws before l' end
       go [] c v k d w = absurd (omega arith)
       go (t ∷ ts) c v k d w =
           let h = f.tells g.moved t v.0 (at_left (p.1 t) _ k) in
@@ -90,41 +93,45 @@ module _ {p : Part} {names : p.0 → List Bytes} {a : Bytes} {ps : List ℕ} {s 
             there = rw h.0 (at_right (p.1 t) _ k);
             moved = omega (arith, h.0, g.moved);
             ends = omega (arith, h.0, length-append (p.1 t) (joined p.1 ts));
-            listed = names_then (omega (arith, f.room)) g.listed h.1;
+            listed = names_then g.listed h.1;
             same = append_assoc g.done (names t) (all_words names ts) ∙ w;
           }
 
-  going_end : {i total : ℕ} {ws : List Bytes} {l : List ℕ} {r : Listed} → m ≤ i → Going p names a ps s i m total ws before l n r → (r.end ≡ total) × Names ws a ps before l n r.count
+  going_end : {i total at : ℕ} {ws : List Bytes} {l : Listed ℕ} → m ≤ i → Going p names given s i m total ws before l at → (at ≡ total) × Names ws given before l
   unfolding joined
-  going_end {i} {total} {ws} {l} {r} q g = go g.rest g.count g.ends g.same
+  going_end {i} {total} {at} {ws} {l} q g = go g.rest g.count g.ends g.same
     where
-      go : (ts : List p.0) → i + length ts ≡ m → r.end + length (joined p.1 ts) ≡ total → g.done ++ all_words names ts ≡ ws → (r.end ≡ total) × Names ws a ps before l n r.count
+      go : (ts : List p.0) → i + length ts ≡ m → at + length (joined p.1 ts) ≡ total → g.done ++ all_words names ts ≡ ws → (at ≡ total) × Names ws given before l
       go [] c d w = (omega arith, rw (sym (append-nil g.done) ∙ w) at g.listed)
       go (t ∷ ts) c d w = absurd (omega arith)
 
--- the loop over them: of every list of m trees that stands at a place
-module _ (p : Part) (names : p.0 → List Bytes) (a : Bytes) (ps : List ℕ) (s : Bytes) (at m : ℕ) (before : List ℕ) (n : ℕ) where
-  abbrev pub ListsSoFar : ℕ → List ℕ → Listed → Type 0
-  ListsSoFar i after r = 1 ≤ at → (ts : List p.0) → (list_part p m).2 ts → At s at (joined p.1 ts) → Going p names a ps s i m (at + length (joined p.1 ts)) (all_words names ts) before after n r
+-- the loop over them: of every list of m trees that stands from `first` on, i are behind
+module _ (p : Part) (names : p.0 → List Bytes) (given : Provided) (s : Bytes) (first m : ℕ) (before : Listed ℕ) where
+  pub record ListsSoFar (i : ℕ) (after : Listed ℕ) (at : ℕ) : Type 0 where
+    pub within : at ≤ length s
+    pub room : SameRoom before after
+    pub going : 1 ≤ first → (ts : List p.0) → (list_part p m).2 ts → At s first (joined p.1 ts) → Going p names given s i m (first + length (joined p.1 ts)) (all_words names ts) before after at
 
-module _ {p : Part} {names : p.0 → List Bytes} {a : Bytes} {ps : List ℕ} {s : Bytes} {at m : ℕ} {before : List ℕ} {n : ℕ} where
-  pub goes_first : n ≤ length before → ListsSoFar p names a ps s at m before n 0 before (record { count = n; end = at })
-  goes_first h z ts v k = record {
-    rest = ts;
-    done = [];
-    count = omega (arith, v.0);
-    each = v.1;
-    there = k;
-    moved = z;
-    ends = refl;
-    listed = names_none h;
-    same = refl;
+module _ {p : Part} {names : p.0 → List Bytes} {given : Provided} {s : Bytes} {first m : ℕ} {before : Listed ℕ} where
+  pub goes_first : first ≤ length s → ListsSoFar p names given s first m before 0 before first
+  goes_first le = record {
+    within = le;
+    room = room_same;
+    going = λ z ts v k. record {
+      rest = ts;
+      done = [];
+      count = omega (arith, v.0);
+      each = v.1;
+      there = k;
+      moved = z;
+      ends = refl;
+      listed = names_none;
+      same = refl;
+    };
   }
 
-  pub goes_more : {i : ℕ} {l l' : List ℕ} {r r' : Listed} → i < m → Reaches 1 p names a ps s r.end l l' r.count r' → length l ≡ length before
-      → ListsSoFar p names a ps s at m before n i l r → ListsSoFar p names a ps s at m before n (i + 1) l' r'
-  goes_more q f e g z ts v k = going_more q f e (g z ts v k)
+  pub goes_more : {i at end : ℕ} {l l' : Listed ℕ} → i < m → Reaches 1 p names given s at l l' end → ListsSoFar p names given s first m before i l at → ListsSoFar p names given s first m before (i + 1) l' end
+  goes_more q f g = record { within = f.within; room = room_then g.room f.room; going = λ z ts v k. going_more q f (g.going z ts v k) }
 
-  pub goes_end : {i : ℕ} {l : List ℕ} {r : Listed} → m ≤ i → r.end ≤ length s → r.count ≤ length before → ListsSoFar p names a ps s at m before n i l r
-      → Reaches 1 (list_part p m) (all_words names) a ps s at before l n r
-  goes_end q w h g = record { within = w; room = h; tells = λ z ts v k. going_end q (g z ts v k) }
+  pub goes_end : {i at : ℕ} {l : Listed ℕ} → m ≤ i → ListsSoFar p names given s first m before i l at → Reaches 1 (list_part p m) (all_words names) given s first before l at
+  goes_end q g = record { within = g.within; room = g.room; tells = λ z ts v k. going_end q (g.going z ts v k) }

@@ -4,15 +4,18 @@ use Rattle.std.specs.Prelude.{List, [], ◌∷◌, ◌≡◌, ℕ, ◌+◌, ◌�
 use Rattle.names.specs.CallAnswer.{CallResult}
 use Rattle.names.specs.Names.{Bytes}
 use Rattle.names.specs.Segments.{At}
-use Rattle.records.specs.Records.{Loc, SN, Kind, Pattern, Name, Body, BL, BV, body_bytes, Binding, BB, binding_bytes, Bindings, list_of}
+use Rattle.records.specs.Records.{Loc, SN, Pattern, Name, Body, BL, BV, body_bytes, Binding, BB, binding_bytes, Bindings, list_of}
+use Rattle.records.specs.declared.Kind.{Kind}
 use Rattle.records.specs.Valid.{ValidBody}
 use Rattle.records.specs.declared.Family.TheVariants.{Binding as a_binding}
 use Rattle.records.specs.Parts.{ValidBinding, family_part, list_part}
-use Rattle.ordering.specs.declared.Listed.{Listed}
+use Rattle.ordering.specs.declared.listed.Listed.{Listed}
+use Rattle.ordering.specs.declared.provides.Provided.{Provided}
 use Rattle.ordering.specs.declared.Order.{Order}
 use Rattle.ordering.specs.declared.Sorted.{Sorted}
 use Rattle.ordering.specs.Listing.{all_words}
-use Rattle.ordering.specs.Provisions.{Entries, Added, Provisions}
+use Rattle.ordering.specs.Listed.{SameRoom, Added}
+use Rattle.ordering.specs.Provisions.{Entries, Provisions}
 use Rattle.ordering.specs.Needs.{binding_limit, needs_of, NeedsAt, Means, outcome_of}
 use Rattle.ordering.specs.OrderCall.{order_of}
 use Rattle.ordering.specs.Rounds.{rounds}
@@ -45,43 +48,44 @@ pub record BodiesAt (s : Bytes) (ps : List ℕ) (bs : List Binding) : Type 0 whe
   pub valid : (k : ℕ) → k < length bs → ValidBody (body_at bs k)
   pub there : (k : ℕ) → k < length bs → At s (get_or ps k 0) (body_bytes (body_at bs k))
 
--- the names of a binding that ends at e were listed behind a 0, and r says where its body starts
-pub record BindingNames (s : Bytes) (before after : List ℕ) (n : ℕ) (r : Listed) (p : Pattern) (b : Body) (e : ℕ) : Type 0 where
-  pub body : At s r.end (body_bytes b)
-  pub ends : r.end + length (body_bytes b) ≡ e
+-- the names of a binding that ends at e were listed behind a 0, and its body starts at a place
+pub record BindingNames (s : Bytes) (before after : Listed ℕ) (body : ℕ) (p : Pattern) (b : Body) (e : ℕ) : Type 0 where
+  pub there : At s body (body_bytes b)
+  pub ends : body + length (body_bytes b) ≡ e
   pub entries : List ℕ
   pub listed : Entries s entries (pattern_provides p)
-  pub added : Added before after n (0 ∷ entries) r.count
+  pub added : Added before after (0 ∷ entries)
 
 -- of every binding that stands in s at a place the names were so listed, if there was room
-abbrev pub ListsBinding : Bytes → ℕ → List ℕ → List ℕ → ℕ → Listed → Type 0
-ListsBinding s at before after n r = (l nl : Loc) (p : Pattern) (b : Body) → ValidBinding (BB l nl p b) → At s at (binding_bytes (BB l nl p b))
-    → n + 1 + length (pattern_provides p) ≤ length before → BindingNames s before after n r p b (at + length (binding_bytes (BB l nl p b)))
+pub record ListsBinding (s : Bytes) (at : ℕ) (before after : Listed ℕ) (body : ℕ) : Type 0 where
+  pub room : SameRoom before after
+  pub names : (l nl : Loc) (p : Pattern) (b : Body) → ValidBinding (BB l nl p b) → At s at (binding_bytes (BB l nl p b))
+      → before.count + 1 + length (pattern_provides p) ≤ length before.items.now → BindingNames s before after body p b (at + length (binding_bytes (BB l nl p b)))
 
 -- the names of all bindings are listed, and where their bodies start
-pub record FindsNames (s : Bytes) (given bodies : List ℕ) (n : ℕ) (bs : List Binding) : Type 0 where
-  pub few : n ≤ length given
-  pub provisions : Provisions s (take n given) bs
+pub record FindsNames (s : Bytes) (entries bodies : List ℕ) (n : ℕ) (bs : List Binding) : Type 0 where
+  pub few : n ≤ length entries
+  pub provisions : Provisions s (take n entries) bs
   pub bodies_at : BodiesAt s bodies bs
 
 -- so it is of every list of so many bindings that stands in s at a place
 abbrev pub FindsAllNames : Bytes → ℕ → ℕ → List ℕ → List ℕ → ℕ → Type 0
-FindsAllNames s at count given bodies n = (bs : List Binding) → Bound s at count bs → FindsNames s given bodies n bs
+FindsAllNames s at count entries bodies n = (bs : List Binding) → Bound s at count bs → FindsNames s entries bodies n bs
 
 -- all that the bodies of bindings need
 unfoldable pub all_needs : List Binding → List Binding → List ℕ
 all_needs bs cs = needs_of (items bs) (all_words (λ b. words (body_of b)) cs)
 
 -- bindings whose names are listed and whose bodies stand at these places; there is room for what they need
-pub record Collectable (s : Bytes) (given bodies : List ℕ) (room : ℕ) (bs : List Binding) : Type 0 where
+pub record Collectable (given : Provided) (bodies : List ℕ) (room : ℕ) (bs : List Binding) : Type 0 where
   pub size : length bs ≡ length bodies
-  pub provisions : Provisions s given bs
-  pub bodies_at : BodiesAt s bodies bs
+  pub provisions : Provisions given.bytes.now given.entries.now bs
+  pub bodies_at : BodiesAt given.bytes.now bodies bs
   pub fits : length (all_needs bs bs) ≤ room
 
 -- the needs of every such list of bindings are listed, over what stood there before, and where those of each start
-abbrev pub FindsNeeds : Bytes → List ℕ → List ℕ → List ℕ → List ℕ → List ℕ → Type 0
-FindsNeeds s given bodies before needs starts = (bs : List Binding) → Collectable s given bodies (length before) bs → NeedsAt (items bs) needs starts
+abbrev pub FindsNeeds : Provided → List ℕ → List ℕ → List ℕ → List ℕ → Type 0
+FindsNeeds given bodies before needs starts = (bs : List Binding) → Collectable given bodies (length before) bs → NeedsAt (items bs) needs starts
 
 -- a row of which so many are placed is the order, or the deadlock, of every list of so many bindings that stands in s at a place
 abbrev pub SortsBindings : Bytes → ℕ → ℕ → List ℕ → Sorted → Type 0

@@ -7,6 +7,7 @@ pub mod Words
 pub mod OrderCall
 pub mod OrderMeans
 pub mod Needs
+pub mod Listed
 pub mod Provisions
 pub mod Listing
 pub mod Assign

@@ -1,9 +1,10 @@
 -- The call Order.
 -- Assumes nothing.
-use Rattle.std.specs.Prelude.{true, false, List, [], ℕ, leb, length}
+use Rattle.std.specs.Prelude.{true, false, List, [], ℕ, leb, length, Some}
 use Rattle.names.specs.CallAnswer.{CallResult, written, refused_answer, accepted_answer}
 use Rattle.names.specs.Names.{Bytes}
 use Rattle.names.specs.Refusals.{place_at, refusing, placeless}
+use Rattle.names.specs.declared.Reason.TheVariants.{Deadlock, ShortBuffer}
 use Rattle.names.specs.declared.Place.{Place}
 use Rattle.records.specs.Records.{Loc, loc_number, Body, BL, BQ, BV, BC, BM, BF, Binding, list_of}
 use Rattle.records.specs.Read.{assign_of}
@@ -32,7 +33,7 @@ let_loc (BF l w ca c a b) = []
 
 -- the indices of the stuck bindings, in the sequence in which `toposort` leaves them; a deadlock carries no rounds
 unfoldable pub stuck_answer : ℕ → Place → Bytes → Bytes → CallResult
-stuck_answer c p buffer is = (record { refusal = refusing 5 p; counter = c; rounds = 0; len = length is }, written is buffer)
+stuck_answer c p buffer is = (record { refusal = Some (refusing Deadlock p); counter = c; rounds = 0; len = length is }, written is buffer)
 
 -- the indices in order, and the number of rounds
 unfoldable pub order_answer : ℕ → Bytes → ℕ → Bytes → CallResult
@@ -42,7 +43,7 @@ order_answer c buffer count is = (accepted_answer c count (length is), written i
 unfoldable pub order_of : ℕ → Bytes → Body → CallResult
 order_of c buffer a =
     elim (leb (length (bindings_of a)) (length buffer)) [
-      | false ↦ refused_answer c buffer (placeless 8)
+      | false ↦ refused_answer c buffer (placeless ShortBuffer)
       | true ↦ elim (toposort_assign_bindings (bindings_of a)) [
         | deadlock is ↦ stuck_answer c (place_at (loc_number (let_loc a))) buffer is
         | ordered is ↦ order_answer c buffer (rounds (items (bindings_of a))) is

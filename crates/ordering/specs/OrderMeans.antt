@@ -3,7 +3,7 @@
 use Rattle.std.specs.Prelude.{◌≢◌, ◌≡◌, ◌≤◌, length, take}
 use Rattle.names.specs.CallAnswer.{CallResult}
 use Rattle.names.specs.Names.{Bytes}
-use Rattle.names.specs.Refusals.{place_at}
+use Rattle.names.specs.Refusals.{place_at, refusal_number, refusal_place}
 use Rattle.records.specs.Records.{loc_number, Body, body_bytes}
 use Rattle.records.specs.Valid.{ValidAssign}
 use Rattle.ordering.specs.Lawful.{Full, NoOrder}
@@ -25,10 +25,10 @@ pub record OrderMeans (input : Bytes) (r : CallResult) : Type 0 where
   -- the length is that of bytes of the result buffer
   pub within : r.0.len ≤ length r.1
   -- with 0 the input is an assign, the bytes written are a full lawful order of its bindings, and the rounds are the nonempty ones
-  pub order : r.0.refusal.number ≡ 0 → (a : Body) × IsAssign input a × Full (items (bindings_of a)) (bytes_written r)
+  pub order : refusal_number r.0.refusal ≡ 0 → (a : Body) × IsAssign input a × Full (items (bindings_of a)) (bytes_written r)
       × (r.0.rounds ≡ rounds (items (bindings_of a)))
   -- with 5 it is one that has none: a byte is written for each stuck binding, once, and for no other, and the place is its L
-  pub stuck : r.0.refusal.number ≡ 5 → (a : Body) × IsAssign input a × NoOrder (items (bindings_of a)) (bytes_written r)
-      × (r.0.refusal.place ≡ place_at (loc_number (let_loc a)))
+  pub stuck : refusal_number r.0.refusal ≡ 5 → (a : Body) × IsAssign input a × NoOrder (items (bindings_of a)) (bytes_written r)
+      × (refusal_place r.0.refusal ≡ place_at (loc_number (let_loc a)))
   -- a refusal carries no rounds
-  pub none : r.0.refusal.number ≢ 0 → r.0.rounds ≡ 0
+  pub none : refusal_number r.0.refusal ≢ 0 → r.0.rounds ≡ 0

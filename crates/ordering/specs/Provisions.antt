@@ -2,10 +2,11 @@
 -- Assumes nothing.
 use Rattle.std.specs.Prelude.{List, [], ◌∷◌, ◌++◌, ◌≡◌, ℕ, zero, suc, ◌+◌, ◌/◌, ◌%◌, ◌≤◌, ◌<◌, length, get_or}
 use Rattle.names.specs.Names.{Bytes}
-use Rattle.names.specs.Segments.{At, SameOutside, Filled}
+use Rattle.names.specs.Segments.{At, SameOutside}
 use Rattle.records.specs.Records.{Binding, BB}
 use Rattle.records.specs.Parts.{Part}
-use Rattle.ordering.specs.declared.Listed.{Listed}
+use Rattle.ordering.specs.declared.listed.Listed.{Listed}
+use Rattle.ordering.specs.Listed.{SameRoom, Added}
 use Rattle.ordering.specs.Needs.{binding_limit}
 use Rattle.ordering.specs.Words.{pattern_provides}
 
@@ -42,33 +43,23 @@ pub record Given (a : Bytes) (given : List ℕ) : Type 0 where
   pub few : listed_bindings given ≤ binding_limit
   pub within : (k : ℕ) → k < length given → (get_or given k 0 / places ≤ get_or given k 0 % places) × (get_or given k 0 % places ≤ length a)
 
--- entries were listed behind the first n, and nothing else was changed
-pub record Added (before after : List ℕ) (n : ℕ) (es : List ℕ) (count : ℕ) : Type 0 where
-  pub counted : count ≡ n + length es
-  pub filled : Filled before after n es (length es)
-
--- the entry e was listed behind the first n, or there was no room and nothing was changed
-pub record AddsOne (before after : List ℕ) (n e count : ℕ) : Type 0 where
-  pub one : n < length before → Added before after n (e ∷ []) count
-  pub full : length before ≤ n → Added before after n [] count
-
 -- an entry of a name, whatever it is, within the first `size` bytes
 pub record EntryIn (size e : ℕ) : Type 0 where
   pub some : e ≡ 0 → ⊥
   pub forward : e / places ≤ e % places
   pub within : e % places ≤ size
 
--- only what stands from n up to count was changed, and entries of names stand there
-pub record Adds (size : ℕ) (before after : List ℕ) (n count : ℕ) : Type 0 where
-  pub more : n ≤ count
-  pub room : count ≤ length before
-  pub frame : SameOutside before after n count
-  pub entries : (k : ℕ) → n ≤ k → k < count → EntryIn size (get_or after k 0)
+-- only what stands behind what was listed was changed, and entries of names stand there
+pub record Adds (size : ℕ) (before after : Listed ℕ) : Type 0 where
+  pub room : SameRoom before after
+  pub more : before.count ≤ after.count
+  pub frame : SameOutside before.items.now after.items.now before.count after.count
+  pub entries : (k : ℕ) → before.count ≤ k → k < after.count → EntryIn size (get_or after.items.now k 0)
 
--- r says where the tree ends that stands in a at a place, and its names were listed if there was room; whatever the bytes, only entries were added
-pub record ListsNames (p : Part) (names : p.0 → List Bytes) (a : Bytes) (at : ℕ) (before after : List ℕ) (n : ℕ) (r : Listed) : Type 0 where
-  pub forward : at ≤ r.end
-  pub within : r.end ≤ length a
-  pub adds : Adds (length a) before after n r.count
-  pub ends : (t : p.0) → p.2 t → At a at (p.1 t) → r.end ≡ at + length (p.1 t)
-  pub lists : (t : p.0) → p.2 t → At a at (p.1 t) → n + length (names t) ≤ length before → (es : List ℕ) × Entries a es (names t) × Added before after n es r.count
+-- the tree that stands in a at a place ends at `end`, and its names were listed if there was room; whatever the bytes, only entries were added
+pub record ListsNames (p : Part) (names : p.0 → List Bytes) (a : Bytes) (at : ℕ) (before after : Listed ℕ) (end : ℕ) : Type 0 where
+  pub forward : at ≤ end
+  pub within : end ≤ length a
+  pub adds : Adds (length a) before after
+  pub ends : (t : p.0) → p.2 t → At a at (p.1 t) → end ≡ at + length (p.1 t)
+  pub lists : (t : p.0) → p.2 t → At a at (p.1 t) → before.count + length (names t) ≤ length before.items.now → (es : List ℕ) × Entries a es (names t) × Added before after es

@@ -3,7 +3,8 @@
 -- let*, the specification of assign.
 -- Assumes nothing.
 use Rattle.std.specs.Prelude.{List, ◌≡◌, ℕ, ◌<◌, length, get_or}
-use Rattle.records.specs.Records.{Kind, Parallel, Sequential, Assign}
+use Rattle.records.specs.declared.Kind.{Kind}
+use Rattle.records.specs.declared.Kind.TheVariants.{Parallel, Sequential, Assign}
 
 -- a place in a let: the body of the binding with this index, or the let's body
 pub data Spot : Type 0 where

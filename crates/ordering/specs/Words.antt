@@ -3,7 +3,9 @@
 -- Assumes nothing.
 use Rattle.std.specs.Prelude.{true, false, List, [], ◌∷◌, ◌++◌, map}
 use Rattle.names.specs.Names.{Bytes, ascii}
-use Rattle.records.specs.Records.{Sexp, SN, SC, SI, SQ, SA, Kind, Parallel, Sequential, Assign, Pattern, Name, Complex, Body, BL, BQ, BV, BC, BM, BF, Bodies, []ᵇ, ◌∷ᵇ◌, Tail, no_tail, tail, Binding, BB, Bindings, []ᵍ, ◌∷ᵍ◌}
+use Rattle.records.specs.Records.{Sexp, SN, SC, SI, SQ, SA, Pattern, Name, Complex, Body, BL, BQ, BV, BC, BM, BF, Bodies, []ᵇ, ◌∷ᵇ◌, Tail, no_tail, tail, Binding, BB, Bindings, []ᵍ, ◌∷ᵍ◌}
+use Rattle.records.specs.declared.Kind.{Kind}
+use Rattle.records.specs.declared.Kind.TheVariants.{Parallel, Sequential, Assign}
 use Rattle.records.specs.Sexps.{truthy}
 use Rattle.ordering.specs.Items.{Item}
 use Rattle.ordering.specs.Toposort.{Toposorted, toposort}

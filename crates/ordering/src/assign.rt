@@ -5,79 +5,80 @@ ghost use Rattle.records.specs.Records.{Binding};
 ghost use Rattle.ordering.specs.Assign.{need_limit, Bound, ListsBinding, FindsAllNames, Collectable, FindsNeeds, SortsBindings, SomeLet, OrdersLet};
 ghost use Rattle.ordering.specs.Needs.{binding_limit, Starts};
 
+use crate::listed::Listed;
 use crate::needs::body_needs;
-use crate::provides::pattern_names;
+use crate::provides::{Provided, pattern_names};
 use crate::sort::toposort;
-use crate::{BINDING_LIMIT, Listed, NEED_LIMIT, Order, Sorted};
+use crate::{BINDING_LIMIT, NEED_LIMIT, Order, Sorted};
 use records::bodies::let_view;
 use records::past::{past_bytes, past_head};
 use records::skip::past_record;
 use records::{Family, LOC_WIDTH};
 
 // Lists what the binding at a place provides, behind a 0, and answers where its body starts.
-fn binding_names(s: &[u8], at: usize, given: &mut [usize], n: usize) -> Listed
-    requires { (at ≤ length s.now) × (length s.now ≤ most_longest) × (n < length given.old) }
-    ensures { ListsBinding s.now at given.old given.new n result }
+fn binding_names(s: &[u8], at: usize, entries: &mut Listed<usize>) -> usize
+    requires { (at ≤ length s.now) × (length s.now ≤ most_longest) }
+    ensures { ListsBinding s.now at entries.old entries.new result }
 {
-    given[n] = 0;
+    entries.push(0);
     let head = at + past_head(&s[at..]);
     let pattern = past_bytes(s, head, LOC_WIDTH);
-    pattern_names(s, pattern, given, n + 1)
+    pattern_names(s, pattern, entries)
 }
 
 // Lists what bindings provide that follow each other from a place on, and where their bodies start.
 // Answers the number of entries.
-pub fn find_names(s: &[u8], first: usize, given: &mut [usize], bodies: &mut [usize]) -> usize
-    requires s_len_bound { (length s.now ≤ most_longest) × (length given.old ≡ need_limit) }
+pub fn find_names(s: &[u8], first: usize, entries: &mut [usize], bodies: &mut [usize]) -> usize
+    requires s_len_bound { (length s.now ≤ most_longest) × (length entries.old ≡ need_limit) }
     requires bound { (bs : List Binding) × Bound s.now first (length bodies.old) bs }
-    ensures { FindsAllNames s.now first (length bodies.old) given.new bodies.new result }
+    ensures { FindsAllNames s.now first (length bodies.old) entries.new bodies.new result }
 {
     let mut at = first;
-    let mut n = 0;
-    for j in 0..bodies.len() {
-        let r = binding_names(s, at, given, n);
-        n = r.count;
-        bodies[j] = r.end;
-        at = past_record(Family::Body, s, r.end);
+    let mut listed = Listed::new(entries);
+    for body in bodies.iter_mut() {
+        *body = binding_names(s, at, &mut listed);
+        at = past_record(Family::Body, s, *body);
     }
-    n
+    listed.count
 }
 
 // Lists the needs of the bodies at the places given, and where those of each start.
-fn find_needs(s: &[u8], given: &[usize], bodies: &[usize], needs: &mut [u64], starts: &mut [usize])
+fn find_needs(given: &Provided, bodies: &[usize], needs: &mut [u64], starts: &mut [usize])
     requires bodies_len_bound { (length bodies.now ≤ binding_limit) × (length bodies.now < length starts.old) }
-    requires collectable { (bs : List Binding) × Collectable s.now given.now bodies.now (length needs.old) bs }
+    requires collectable { (bs : List Binding) × Collectable given.now bodies.now (length needs.old) bs }
     ensures starts { Starts (length bodies.now) needs.new starts.new }
-    ensures finds_needs { FindsNeeds s.now given.now bodies.now needs.old needs.new starts.new }
+    ensures finds_needs { FindsNeeds given.now bodies.now needs.old needs.new starts.new }
 {
-    let mut n = 0;
-    for j in 0..bodies.len() {
-        starts[j] = n;
-        let body = bodies[j];
-        let r = body_needs(s, given, &s[body..], needs, n);
-        n = r.count;
+    let mut listed = Listed::new(needs);
+    for (j, body) in bodies.iter().enumerate() {
+        starts[j] = listed.count;
+        body_needs(given, &given.bytes[*body..], &mut listed);
     }
-    starts[bodies.len()] = n;
+    starts[bodies.len()] = listed.count;
 }
 
 // Orders the bindings that follow each other from a place on, with room for what is listed of them.
 fn order_bindings(
     s: &[u8],
     first: usize,
-    given: &mut [usize],
+    entries: &mut [usize],
     bodies: &mut [usize],
     needs: &mut [u64],
     starts: &mut [usize],
     row: &mut [u8],
 ) -> Sorted
-    requires s_len_bound { (length s.now ≤ most_longest) × (length given.old ≡ need_limit) × (length needs.old ≡ need_limit) }
+    requires s_len_bound { (length s.now ≤ most_longest) × (length entries.old ≡ need_limit) × (length needs.old ≡ need_limit) }
     requires bodies_len { (length bodies.old ≡ length row.old) × (length row.old ≤ binding_limit) × (length row.old < length starts.old) }
     requires bound { (bs : List Binding) × Bound s.now first (length row.old) bs }
     ensures placed_in_bounds { result.placed ≤ length row.new }
     ensures sorts_bindings { SortsBindings s.now first (length row.old) row.new result }
 {
-    let n = find_names(s, first, given, bodies);
-    find_needs(s, &given[..n], bodies, needs, starts);
+    let n = find_names(s, first, entries, bodies);
+    let given = Provided {
+        bytes: s,
+        entries: &entries[..n],
+    };
+    find_needs(&given, bodies, needs, starts);
     toposort(needs, starts, row)
 }
 
@@ -92,12 +93,12 @@ pub fn toposort_assign_bindings(s: &[u8]) -> Order
     let mut row = [0u8; BINDING_LIMIT];
     let mut bodies = [0usize; BINDING_LIMIT];
     let mut starts = [0usize; BINDING_LIMIT + 1];
-    let mut given = [0usize; NEED_LIMIT];
+    let mut entries = [0usize; NEED_LIMIT];
     let mut needs = [0u64; NEED_LIMIT];
     let r = order_bindings(
         s,
         v.first,
-        &mut given,
+        &mut entries,
         &mut bodies[..count],
         &mut needs,
         &mut starts,

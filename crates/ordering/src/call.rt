@@ -11,7 +11,7 @@ use crate::assign::toposort_assign_bindings;
 use names::bytes::{number, put};
 use names::call::{accepted, refused};
 use names::refusals::{place_at, placeless, refusing};
-use names::{Answer, Place};
+use names::{Answer, Place, Reason};
 use records::bodies::let_view;
 use records::input::open_input;
 use records::{LOC_WIDTH, Wanted};
@@ -24,6 +24,7 @@ fn ordered(o: Order, counter: u64, res: &mut [u8]) -> Answer
     let row = o.row;
     let len = o.count;
     put(res, 0, &row[..len]);
+    // A cast: Rust has no From of usize for u64, and TryFrom would answer an error that cannot come.
     accepted(counter, o.rounds as u64, len)
 }
 
@@ -37,7 +38,7 @@ fn stuck(o: Order, place: Place, counter: u64, res: &mut [u8]) -> Answer
     let end = o.count;
     put(res, 0, &row[from..end]);
     Answer {
-        refusal: refusing(5, place),
+        refusal: Some(refusing(Reason::Deadlock, place)),
         counter,
         rounds: 0,
         len: end - from,
@@ -52,11 +53,12 @@ fn order_of(counter: u64, s: &[u8], res: &mut [u8]) -> Answer
 {
     let v = let_view(s);
     if res.len() < usize::from(v.count) {
-        return refused(placeless(8), counter);
+        return refused(placeless(Reason::ShortBuffer), counter);
     }
     let o = toposort_assign_bindings(s);
     if o.placed < o.count {
         let loc = v.loc;
+        // A cast: Rust has no From of usize for u64, and TryFrom would answer an error that cannot come.
         let place = place_at(number(s, loc, LOC_WIDTH) as u64);
         stuck(o, place, counter, res)
     } else {

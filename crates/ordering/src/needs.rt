@@ -1,304 +1,220 @@
 // What a body needs: for each name in its `to_sexp` that some binding of the assign provides, the
-// bindings that do, as bits. `a` is the assign, `given` lists the names that its bindings provide,
-// and n needs are already listed.
+// bindings that do, as bits. They are listed behind the needs of the bodies before.
 ghost use Rattle.std.specs.Prelude.{true, [], ◌∷◌, ◌≡◌, ◌≤◌, length};
 ghost use Rattle.names.specs.Segments.{At};
 ghost use Rattle.records.specs.Records.{Sexp, sexp_bytes};
-ghost use Rattle.records.specs.Read.{kind_of};
 ghost use Rattle.records.specs.Sexps.{truthy};
 ghost use Rattle.records.specs.Valid.{SexpFields};
+ghost use Rattle.ordering.specs.Listed.{SameRoom};
 ghost use Rattle.ordering.specs.Listing.{Names, ListsSexp, ListsBody, ReachesKind, ReachesPattern, ReachesMember, ReachesMembers, ListsCaptured};
-ghost use Rattle.ordering.specs.Provisions.{Given};
 ghost use Rattle.ordering.specs.Words.{let_word};
 
-use crate::Listed;
-use crate::provides::providers;
+use crate::listed::Listed;
+use crate::provides::Provided;
 use records::bodies::{call_view, lambda_view, let_view};
 use records::past::{name_view, past_bytes, past_head, tagged_view};
 use records::record::body_mark;
 use records::sexps::{all_zero, sexp_view};
 use records::skip::skip;
-use records::{BodyMark, Family, LOC_WIDTH, MARK_WIDTH, SexpView};
+use records::{BodyMark, Family, Kind, LOC_WIDTH, MARK_WIDTH, SexpView};
 
 // A name, if some binding provides it.
-fn word(a: &[u8], given: &[usize], name: &[u8], needs: &mut [u64], n: usize) -> usize
-    requires { Given a.now given.now × (n ≤ length needs.old) }
-    ensures { Names (name.now ∷ []) a.now given.now needs.old needs.new n result }
+fn word(given: &Provided, name: &[u8], needs: &mut Listed<u64>)
+    ensures { Names (name.now ∷ []) given.now needs.old needs.new }
 {
-    let bits = providers(a, given, name);
-    if bits == 0 {
-        return n;
+    let bits = given.providers(name);
+    if bits != 0 {
+        needs.push(bits);
     }
-    if n >= needs.len() {
-        return n;
-    }
-    needs[n] = bits;
-    n + 1
 }
 
-// The names of the S record at the start of s.
+// The names of the S record at the start of s, and where it ends.
 #[cycle(sexp_words)]
-fn sexp_needs(a: &[u8], given: &[usize], s: &[u8], needs: &mut [u64], n: usize) -> Listed
-    requires { Given a.now given.now × (n ≤ length needs.old) }
-    ensures { ListsSexp a.now given.now s.now 0 needs.old needs.new n result }
+fn sexp_needs(given: &Provided, s: &[u8], needs: &mut Listed<u64>) -> usize
+    ensures { ListsSexp given.now s.now 0 needs.old needs.new result }
 {
-    let v = sexp_view(s);
-    match v {
-        SexpView::Nil(end) => Listed { count: n, end },
+    match sexp_view(s) {
+        SexpView::Nil(end) => end,
         SexpView::Pair(head) => {
-            let h = child_sexp(a, given, s, head, needs, n);
-            child_sexp(a, given, s, h.end, needs, h.count)
+            let tail = child_sexp(given, s, head, needs);
+            child_sexp(given, s, tail, needs)
         }
         SexpView::Integer(b) | SexpView::Text(b) | SexpView::Atom(b) => {
-            let start = b.start;
-            let end = b.end;
-            Listed {
-                count: word(a, given, &s[start..end], needs, n),
-                end,
-            }
+            word(given, &s[b.start..b.end], needs);
+            b.end
         }
-        SexpView::Unknown => Listed {
-            count: n,
-            end: s.len(),
-        },
+        SexpView::Unknown => s.len(),
     }
 }
 
-// The names of the S record at a place.
+// The names of the S record at a place, and where it ends.
 #[cycle(sexp_words)]
-fn child_sexp(a: &[u8], given: &[usize], s: &[u8], at: usize, needs: &mut [u64], n: usize) -> Listed
-    requires { Given a.now given.now × (at ≤ length s.now) × (n ≤ length needs.old) }
-    ensures { ListsSexp a.now given.now s.now at needs.old needs.new n result }
+fn child_sexp(given: &Provided, s: &[u8], at: usize, needs: &mut Listed<u64>) -> usize
+    requires { at ≤ length s.now }
+    ensures { ListsSexp given.now s.now at needs.old needs.new result }
 {
-    let r = sexp_needs(a, given, &s[at..], needs, n);
-    Listed {
-        count: r.count,
-        end: at + r.end,
-    }
+    at + sexp_needs(given, &s[at..], needs)
 }
 
 // Whether the S record at the start of s is neither nil nor a number zero.
 fn truthy(s: &[u8]) -> bool
     ensures { (t : Sexp) → SexpFields t → At s.now 0 (sexp_bytes t) → result ≡ truthy t }
 {
-    let v = sexp_view(s);
-    match v {
+    match sexp_view(s) {
         SexpView::Nil(_) => false,
         SexpView::Integer(b) | SexpView::Text(b) | SexpView::Atom(b) => {
-            let start = b.start;
-            let end = b.end;
-            !all_zero(&s[start..end])
+            !all_zero(&s[b.start..b.end])
         }
-        SexpView::Pair(_) => true,
-        SexpView::Unknown => true,
+        SexpView::Pair(_) | SexpView::Unknown => true,
     }
 }
 
-// The names of the body at the start of s.
+// The names of the body at the start of s, and where it ends.
 #[cycle(body_words)]
-pub fn body_needs(a: &[u8], given: &[usize], s: &[u8], needs: &mut [u64], n: usize) -> Listed
-    requires { Given a.now given.now × (n ≤ length needs.old) }
-    ensures { ListsBody a.now given.now s.now 0 needs.old needs.new n result }
+pub fn body_needs(given: &Provided, s: &[u8], needs: &mut Listed<u64>) -> usize
+    ensures { ListsBody given.now s.now 0 needs.old needs.new result }
 {
     match body_mark(s) {
-        Some(BodyMark::Let) => let_needs(a, given, s, needs, n),
+        Some(BodyMark::Let) => let_needs(given, s, needs),
         Some(BodyMark::Quoted) => {
-            let c = word(a, given, b"q", needs, n);
-            child_sexp(a, given, s, past_bytes(s, 0, MARK_WIDTH), needs, c)
+            word(given, b"q", needs);
+            child_sexp(given, s, past_bytes(s, 0, MARK_WIDTH), needs)
         }
-        Some(BodyMark::Value) => child_sexp(a, given, s, past_bytes(s, 0, MARK_WIDTH), needs, n),
-        Some(BodyMark::Call) => call_needs(a, given, s, needs, n),
-        Some(BodyMark::Lambda) => lambda_needs(a, given, s, needs, n),
-        Some(BodyMark::Mod) | None => Listed {
-            count: n,
-            end: skip(Family::Body, s),
-        },
+        Some(BodyMark::Value) => child_sexp(given, s, past_bytes(s, 0, MARK_WIDTH), needs),
+        Some(BodyMark::Call) => call_needs(given, s, needs),
+        Some(BodyMark::Lambda) => lambda_needs(given, s, needs),
+        Some(BodyMark::Mod) | None => skip(Family::Body, s),
     }
 }
 
 // The word that `to_sexp` writes for a let.
-fn let_word(a: &[u8], given: &[usize], kind: u8, needs: &mut [u64], n: usize) -> usize
-    requires { Given a.now given.now × (n ≤ length needs.old) }
-    ensures { Names (let_word (kind_of kind) ∷ []) a.now given.now needs.old needs.new n result }
+#[tactic(auto, unfolding(crate::specs::Words::let_word, names::specs::Names::ascii))]
+fn let_word(given: &Provided, kind: Kind, needs: &mut Listed<u64>)
+    ensures { Names (let_word kind ∷ []) given.now needs.old needs.new }
 {
     match kind {
-        0 => word(a, given, b"let", needs, n),
-        1 => word(a, given, b"let*", needs, n),
-        _ => word(a, given, b"assign", needs, n),
+        Kind::Parallel => word(given, b"let", needs),
+        Kind::Sequential => word(given, b"let*", needs),
+        Kind::Assign => word(given, b"assign", needs),
     }
 }
 
-// The names of a BL.
+// The names of a BL, and where it ends.
 #[cycle(body_words)]
-fn let_needs(a: &[u8], given: &[usize], s: &[u8], needs: &mut [u64], n: usize) -> Listed
-    requires { Given a.now given.now × (n ≤ length needs.old) }
-    ensures { ReachesKind 0 a.now given.now s.now 0 needs.old needs.new n result }
+fn let_needs(given: &Provided, s: &[u8], needs: &mut Listed<u64>) -> usize
+    ensures { ReachesKind 0 given.now s.now 0 needs.old needs.new result }
 {
     let v = let_view(s);
-    let c = let_word(a, given, v.kind, needs, n);
-    let from = Listed {
-        count: c,
-        end: v.first,
-    };
-    let b = times(a, given, s, true, v.count, from, needs);
-    child(a, given, s, false, b.end, needs, b.count)
+    let_word(given, v.kind, needs);
+    let body = times(given, s, true, v.count, v.first, needs);
+    child(given, s, false, body, needs)
 }
 
-// The names of a BC.
+// The names of a BC, and where it ends.
 #[cycle(body_words)]
-fn call_needs(a: &[u8], given: &[usize], s: &[u8], needs: &mut [u64], n: usize) -> Listed
-    requires { Given a.now given.now × (n ≤ length needs.old) }
-    ensures { ReachesKind 3 a.now given.now s.now 0 needs.old needs.new n result }
+fn call_needs(given: &Provided, s: &[u8], needs: &mut Listed<u64>) -> usize
+    ensures { ReachesKind 3 given.now s.now 0 needs.old needs.new result }
 {
     let v = call_view(s);
-    let from = Listed {
-        count: n,
-        end: v.first,
-    };
-    let e = times(a, given, s, false, v.count, from, needs);
-    let t = tagged_view(s, e.end);
+    let tail = times(given, s, false, v.count, v.first, needs);
+    let t = tagged_view(s, tail);
     if t.tag == 0 {
-        return Listed {
-            count: e.count,
-            end: t.next,
-        };
+        return t.next;
     }
-    let c = word(a, given, b"&rest", needs, e.count);
-    child(a, given, s, false, t.next, needs, c)
+    word(given, b"&rest", needs);
+    child(given, s, false, t.next, needs)
 }
 
-// The names of a BF: `to_sexp` writes no captures.
+// The names of a BF, and where it ends: `to_sexp` writes no captures.
 #[cycle(body_words)]
-fn lambda_needs(a: &[u8], given: &[usize], s: &[u8], needs: &mut [u64], n: usize) -> Listed
-    requires { Given a.now given.now × (n ≤ length needs.old) }
-    ensures { ReachesKind 5 a.now given.now s.now 0 needs.old needs.new n result }
+fn lambda_needs(given: &Provided, s: &[u8], needs: &mut Listed<u64>) -> usize
+    ensures { ReachesKind 5 given.now s.now 0 needs.old needs.new result }
 {
     let v = lambda_view(s);
-    let c = word(a, given, b"lambda", needs, n);
-    let b = capture_needs(a, given, s, v.capture_args, needs, c);
-    let r = child_sexp(a, given, s, v.args, needs, b);
-    child(a, given, s, false, r.end, needs, r.count)
+    word(given, b"lambda", needs);
+    capture_needs(given, s, v.capture_args, needs);
+    let body = child_sexp(given, s, v.args, needs);
+    child(given, s, false, body, needs)
 }
 
 // The names of the capture args, after `&`.
-fn capture_needs(
-    a: &[u8],
-    given: &[usize],
-    s: &[u8],
-    at: usize,
-    needs: &mut [u64],
-    n: usize,
-) -> usize
-    requires { Given a.now given.now × (at ≤ length s.now) × (n ≤ length needs.old) }
-    ensures upper_bound { result ≤ length needs.old }
-    ensures lists_captured { ListsCaptured a.now given.now s.now at needs.old needs.new n result }
+fn capture_needs(given: &Provided, s: &[u8], at: usize, needs: &mut Listed<u64>)
+    requires { at ≤ length s.now }
+    ensures room { SameRoom needs.old needs.new }
+    ensures lists_captured { ListsCaptured given.now s.now at needs.old needs.new }
 {
-    if !truthy(&s[at..]) {
-        return n;
+    if truthy(&s[at..]) {
+        word(given, b"&", needs);
+        child_sexp(given, s, at, needs);
     }
-    let c = word(a, given, b"&", needs, n);
-    let r = child_sexp(a, given, s, at, needs, c);
-    r.count
 }
 
-// The names of a BB.
+// The names of a BB, and where it ends.
 #[cycle(body_words)]
-fn binding_needs(a: &[u8], given: &[usize], s: &[u8], needs: &mut [u64], n: usize) -> Listed
-    requires { Given a.now given.now × (n ≤ length needs.old) }
-    ensures { ReachesMember 0 true a.now given.now s.now 0 needs.old needs.new n result }
+fn binding_needs(given: &Provided, s: &[u8], needs: &mut Listed<u64>) -> usize
+    ensures { ReachesMember 0 true given.now s.now 0 needs.old needs.new result }
 {
-    let p = past_bytes(s, past_head(s), LOC_WIDTH);
-    let q = pattern_needs(a, given, s, p, needs, n);
-    child(a, given, s, false, q.end, needs, q.count)
+    let pattern = past_bytes(s, past_head(s), LOC_WIDTH);
+    let body = pattern_needs(given, s, pattern, needs);
+    child(given, s, false, body, needs)
 }
 
-// The names of the pattern at a place.
-fn pattern_needs(
-    a: &[u8],
-    given: &[usize],
-    s: &[u8],
-    at: usize,
-    needs: &mut [u64],
-    n: usize,
-) -> Listed
-    requires { Given a.now given.now × (at ≤ length s.now) × (n ≤ length needs.old) }
-    ensures { ReachesPattern a.now given.now s.now at needs.old needs.new n result }
+// The names of the pattern at a place, and where it ends.
+fn pattern_needs(given: &Provided, s: &[u8], at: usize, needs: &mut Listed<u64>) -> usize
+    requires { at ≤ length s.now }
+    ensures { ReachesPattern given.now s.now at needs.old needs.new result }
 {
     let v = tagged_view(s, at);
     if v.tag == 0 {
         let w = name_view(s, v.next);
-        let start = w.start;
-        let end = w.end;
-        return Listed {
-            count: word(a, given, &s[start..end], needs, n),
-            end,
-        };
+        word(given, &s[w.start..w.end], needs);
+        return w.end;
     }
-    child_sexp(a, given, s, v.next, needs, n)
+    child_sexp(given, s, v.next, needs)
 }
 
-// The names of the binding or body at a place. None stands at the mark around it; on bytes that are
-// no record the test makes the recursion end.
+// The names of the binding or body at a place, and where it ends. None stands at the mark around it;
+// on bytes that are no record the test makes the recursion end.
 #[cycle(body_words)]
-fn child(
-    a: &[u8],
-    given: &[usize],
-    s: &[u8],
-    binding: bool,
-    at: usize,
-    needs: &mut [u64],
-    n: usize,
-) -> Listed
-    requires { Given a.now given.now × (at ≤ length s.now) × (n ≤ length needs.old) }
-    ensures { ReachesMember 1 binding a.now given.now s.now at needs.old needs.new n result }
+fn child(given: &Provided, s: &[u8], binding: bool, at: usize, needs: &mut Listed<u64>) -> usize
+    requires { at ≤ length s.now }
+    ensures { ReachesMember 1 binding given.now s.now at needs.old needs.new result }
 {
     if at == 0 {
-        return Listed { count: n, end: 0 };
+        return 0;
     }
-    let r = member_needs(a, given, &s[at..], binding, needs, n);
-    Listed {
-        count: r.count,
-        end: at + r.end,
-    }
+    at + member_needs(given, &s[at..], binding, needs)
 }
 
-// The names of the binding or body at the start of s.
+// The names of the binding or body at the start of s, and where it ends. `binding` says which, and no
+// closure does: in a cycle of calls its clauses would have to be written out at each use.
 #[cycle(body_words)]
-fn member_needs(
-    a: &[u8],
-    given: &[usize],
-    s: &[u8],
-    binding: bool,
-    needs: &mut [u64],
-    n: usize,
-) -> Listed
-    requires { Given a.now given.now × (n ≤ length needs.old) }
-    ensures { ReachesMember 0 binding a.now given.now s.now 0 needs.old needs.new n result }
+fn member_needs(given: &Provided, s: &[u8], binding: bool, needs: &mut Listed<u64>) -> usize
+    ensures { ReachesMember 0 binding given.now s.now 0 needs.old needs.new result }
 {
     if binding {
-        binding_needs(a, given, s, needs, n)
+        binding_needs(given, s, needs)
     } else {
-        body_needs(a, given, s, needs, n)
+        body_needs(given, s, needs)
     }
 }
 
-// The names of `count` bindings or bodies from a place on, behind the needs listed so far.
+// The names of `count` bindings or bodies from a place on, and where the last ends.
 #[cycle(body_words)]
 fn times(
-    a: &[u8],
-    given: &[usize],
+    given: &Provided,
     s: &[u8],
     binding: bool,
     count: u8,
-    from: Listed,
-    needs: &mut [u64],
-) -> Listed
-    requires { Given a.now given.now × (from.end ≤ length s.now) × (from.count ≤ length needs.old) }
-    ensures { ReachesMembers binding count a.now given.now s.now from needs.old needs.new result }
+    first: usize,
+    needs: &mut Listed<u64>,
+) -> usize
+    requires { first ≤ length s.now }
+    ensures { ReachesMembers binding count given.now s.now first needs.old needs.new result }
 {
-    let mut r = from;
+    let mut at = first;
     for _ in 0..count {
-        r = child(a, given, s, binding, r.end, needs, r.count);
+        at = child(given, s, binding, at, needs);
     }
-    r
+    at
 }

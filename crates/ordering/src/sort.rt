@@ -36,6 +36,7 @@ fn rising(row: &mut [u8])
     ensures { row.new ≡ indices_from 0 (length row.old) }
 {
     for i in 0..row.len() {
+        // A cast: what is narrowed fits, and TryFrom would answer an error that cannot come.
         row[i] = i as u8;
     }
 }

@@ -3,7 +3,6 @@ use mathlib.Core.Path.{◌≡◌, refl, sym, ap, ◌∙◌}
 use mathlib.Core.List.{[], ◌∷◌, ◌++◌, map}
 use Rattle.std.specs.declared.option.Option.{Option}
 use Rattle.std.specs.declared.option.Option.TheVariants.{Some, None}
-use borrow.Author.Tests.{le-leb, lt-leb}
 use native.Mathlib.Omega.{arith}
 use Prim.Native.Nat.{ℕ, zero, suc, ◌+◌, ◌*◌, ◌-◌, ◌≤◌, ◌<◌}
 use lib.ListN.{length, take, drop, get_or, length-append, length-drop, length-map, get_or-append, get_or-eq_default}
@@ -14,23 +13,6 @@ use Rattle.records.specs.declared.NameView.{NameView}
 use Rattle.outline.specs.Page.{spaces, visible, shown, fitted, line_parts}
 use Rattle.outline.specs.PageWork.{LabelWithin, label_name}
 use Rattle.outline.proofs.Lines.{spaces_long, fitted_long}
-
--- how a byte prints
-module _ (b : ℕ) where
-  -- below 21 a dot
-  pub visible_low : b < 33 → 46 ≡ visible b
-  unfolding visible
-  visible_low lt = rw (lt-leb 33 b lt) refl
-
-  -- above 7E too
-  pub visible_high : 126 < b → 46 ≡ visible b
-  unfolding visible
-  visible_high lt = rw (le-leb 33 b (omega arith), lt-leb b 126 lt) refl
-
-  -- else as it is
-  pub visible_between : 33 ≤ b → b ≤ 126 → b ≡ visible b
-  unfolding visible
-  visible_between lo hi = rw (le-leb 33 b lo, le-leb b 126 hi) refl
 
 -- within a list it does not matter what stands for the rest
 get_any : (l : Bytes) (i d e : ℕ) → i < length l → get_or l i d ≡ get_or l i e
@@ -78,6 +60,9 @@ module _ (s : Bytes) (v : NameView) (k : ℕ) (w : LabelWithin s (Some v)) where
   pub name_ended : v.end - v.start ≤ k → 32 ≡ get_or (shown (label_name s (Some v))) k 32
   unfolding shown label_name seen
   name_ended le = sym (get_or-eq_default (map visible seen) 32 {n = k} (omega (arith, length-map seen visible, seen_length)))
+
+-- the characters of a name, or of none
+pub ruleset name_characters = (dash_shown, dash_ended, name_shown, name_ended)
 
 -- spaces
 spaces_get : (n i d : ℕ) → i < n → get_or (spaces n) i d ≡ 32

@@ -16,7 +16,7 @@ use Rattle.outline.specs.Outline.{Outline, node, outline_mark, outline_name, mar
 use Rattle.outline.specs.Page.{line_width, fitted, line_parts, line_text, line}
 use Rattle.outline.specs.PageWork.{label_name, Labels, LineAsks, LineWritten}
 use Rattle.outline.proofs.Characters.{ended_length, ended_get, ended_last}
-use Rattle.outline.proofs.NamePlaces.{mark_there}
+use Rattle.outline.proofs.KnownMarks.{mark_there}
 
 -- what stands on the line of the record that s starts with
 abbrev pub drawn_text : Bytes → ℕ → Option NameView → Bytes
@@ -36,7 +36,7 @@ front_more s depth name v f room lt e =
 line_drawn : {s : Bytes} {name : Option NameView} (e : Entry) (x : Outline) → OutlineOf x → At s 0 (outline_bytes x) → Labels s name → drawn_line s e.around.depth name ≡ line (e, x)
 unfolding line line_text outline_mark outline_name
 line_drawn {s} {name} e x o a l =
-    ap (λ (t : Bytes). fitted line_width t ++ byte 10) (rw (mark_there x o a, l.says x o a) (as_text x))
+    ap (λ (t : Bytes). fitted line_width t ++ byte 10) (rw (mark_there x a, l.says x o a) (as_text x))
   where
     as_text : (y : Outline) → line_parts e.around.depth (mark_bytes (outline_mark y)) (outline_name y) ≡ line_text (e, y)
     as_text (node m n ps) = refl

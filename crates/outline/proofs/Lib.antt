@@ -10,7 +10,6 @@ pub mod OutlineBytes
 pub mod ShapedTrees
 pub mod Listed
 pub mod Lines
-pub mod Keys
 pub mod Characters
 pub mod NamePlaces
 pub mod Drawn

@@ -9,17 +9,17 @@ use Rattle.names.specs.Segments.{At}
 use Rattle.names.proofs.Places.{at_whole, at_place, at_left, at_right}
 use Rattle.records.specs.Limits.{most_longest}
 use Rattle.records.specs.Lists.{joined, Each}
-use Rattle.records.specs.Records.{mark_width, Sexp, SN, SC, SI, SQ, SA, Pattern, Name, Complex, Body, BL, BQ, BV, BC, BM, BF, Bodies, []ᵇ, ◌∷ᵇ◌, Tail, no_tail, tail, Binding, BB, Bindings, []ᵍ, ◌∷ᵍ◌, Helper, HC, HM, HD, HN, HR, Helpers, []ʰ, ◌∷ʰ◌, Form, CF, form_bytes}
+use Rattle.records.specs.Records.{Sexp, SN, SC, SI, SQ, SA, Pattern, Name, Complex, Body, BL, BQ, BV, BC, BM, BF, Bodies, []ᵇ, ◌∷ᵇ◌, Tail, no_tail, tail, Binding, BB, Bindings, []ᵍ, ◌∷ᵍ◌, Helper, HC, HM, HD, HN, HR, Helpers, []ʰ, ◌∷ʰ◌, Form, CF, form_bytes}
 use Rattle.records.specs.Valid.{SexpFields, ValidPattern, BodyFields, BodiesFields, TailFields, BindingFields, BindingsFields, HelperFields, HelpersFields, FormFields}
 use Rattle.outline.specs.declared.Around.{Around}
 use Rattle.outline.specs.declared.Entry.{Entry}
-use Rattle.outline.specs.Outline.{Outline, node, Pieces, no_more, bytes_then, record_then, record_alone, ◌++ᵖ◌, outline_mark, mark_bytes, outline_bytes, pieces_bytes, outline_records, pieces_records, sexp_outline, pattern_pieces, body_outline, bodies_pieces, tail_pieces, binding_outline, bindings_pieces, helper_outline, helpers_pieces, form_outline, OutlineOf, of_sexp, of_body, of_binding, of_helper, of_form}
+use Rattle.outline.specs.Outline.{Outline, node, Pieces, no_more, bytes_then, record_then, record_alone, ◌++ᵖ◌, mark_bytes, outline_bytes, pieces_bytes, outline_records, pieces_records, sexp_outline, pattern_pieces, body_outline, bodies_pieces, tail_pieces, binding_outline, bindings_pieces, helper_outline, helpers_pieces, form_outline, OutlineOf, of_sexp, of_body, of_binding, of_helper, of_form}
 use Rattle.outline.specs.Index.{nothing_around, moved_on, under, outline_listing, pieces_listing, entry_width, entry_bytes, index_bytes}
-use Rattle.outline.specs.Shape.{InShape, in_shape, EntryFits}
+use Rattle.outline.specs.Shape.{EntryFits}
 use Rattle.outline.proofs.Joins.{joined_append, each_append}
 use Rattle.outline.proofs.Listings.{index_bytes_length}
 use Rattle.outline.proofs.OutlineBytes.{form_outline_bytes}
-use Rattle.outline.proofs.ShapedTrees.{shaped_sexp, shaped_body, shaped_binding, shaped_helper, shaped_form}
+use Rattle.outline.proofs.KnownMarks.{mark_long}
 
 -- a record that is listed is that of a valid tree and stands in s as its entry says
 pub record StandsIn (s : Bytes) (l : Entry × Outline) : Type 0 where
@@ -113,27 +113,14 @@ mutual
   all_form : (f : Form) → FormFields f → AllOf (form_outline f)
   all_form (CF l r a hs b) v = (of_form (CF l r a hs b) v, (all_sexp a v.2.0, all_in_append (helpers_pieces hs) (record_alone (body_outline b)) (all_helpers hs v.4) (all_body b v.5, tt)))
 
--- such an outline is shaped
-pub of_shaped : {x : Outline} → OutlineOf x → InShape x
-of_shaped (of_sexp s v) = shaped_sexp s v
-of_shaped (of_body b v) = shaped_body b v
-of_shaped (of_binding b v) = shaped_binding b v
-of_shaped (of_helper h v) = shaped_helper h v
-of_shaped (of_form f v) = shaped_form f v
-
--- the mark of a shaped record is known
-pub shaped_mark : {x : Outline} → InShape x → length (mark_bytes (outline_mark x)) ≡ mark_width
-unfolding outline_mark
-shaped_mark (in_shape k h) = k
-
 module _ (s : Bytes) where
   mutual
-    unfolding AllOf outline_mark Each outline_bytes outline_listing
+    unfolding AllOf Each outline_bytes outline_listing
 
     -- a record that stands in s, and all in it
     outline_stands : (a : Around) (x : Outline) → AllOf x → a.depth ≤ a.offset → At s a.offset (outline_bytes x) → Each (StandsIn s) (outline_listing a x)
     outline_stands a (node m n ps) (o, i) d h =
-        let k : length (mark_bytes m) ≡ mark_width = shaped_mark (of_shaped o) in (
+        let k = mark_long m in (
           record { of = o; there = h; deep = d; len = refl },
           pieces_stands (moved_on (length (mark_bytes m)) (under m a)) ps i (omega arith) (at_right (mark_bytes m) (pieces_bytes ps) h),
         )

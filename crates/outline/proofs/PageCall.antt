@@ -7,6 +7,7 @@ use lib.ListN.{length}
 use Rattle.names.specs.CallAnswer.{CallResult, accepted_answer, refused_answer, written}
 use Rattle.names.specs.Names.{Bytes}
 use Rattle.names.specs.Refusals.{placeless}
+use Rattle.names.specs.declared.Reason.TheVariants.{ShortPage}
 use Rattle.names.specs.declared.Refusal.{Refusal}
 use Rattle.names.specs.Segments.{At}
 use Rattle.names.specs.declared.Answer.{Answer}
@@ -82,10 +83,10 @@ module _ {F work : ℕ} {input buffer : Bytes} (t : TakenForm F work input buffe
     lines_few = omega (arith, x.few, x.within, t.short)
 
     -- a buffer that is too short
-    pub page_refused : {r : Refusal} → length buffer < (line_width + 1) * c.count → r ≡ placeless 9 → refused_answer 0 buffer r ≡ page_call F work input buffer
+    pub page_refused : {r : Refusal} → length buffer < (line_width + 1) * c.count → r ≡ placeless ShortPage → refused_answer 0 buffer r ≡ page_call F work input buffer
     unfolding laid_out
     page_refused lt e =
-        let over : laid_out buffer t.form ≡ refused_answer 0 buffer (placeless 9) =
+        let over : laid_out buffer t.form ≡ refused_answer 0 buffer (placeless ShortPage) =
         rw (lt-leb ((line_width + 1) * outline_records (form_outline t.form)) (length buffer) (omega (arith, lines_long)), laid_out) refl in
         ap (refused_answer 0 buffer) e ∙ sym (t.is ∙ over)
 

@@ -7,10 +7,12 @@ use Prim.Native.String.{String}
 use lib.ListN.{length, replicate, take}
 use Rattle.names.specs.CallAnswer.{computing_answers}
 use Rattle.names.specs.Names.{Bytes, ascii, computing_names}
+use Rattle.names.specs.Refusals.{refusal_number, refusal_place}
 use Rattle.records.specs.Opened.{computing_opened}
 use Rattle.records.specs.Read.{computing_read}
 use Rattle.records.specs.Lists.{joined}
-use Rattle.records.specs.Records.{computing_records, Loc, Sexp, SN, SC, SQ, SA, Assign, Name, Complex, BL, BQ, BV, BC, BM, tail, BB, HD, Form, CF, to_bodies, to_bindings, to_helpers, form_bytes}
+use Rattle.records.specs.Records.{computing_records, Loc, Sexp, SN, SC, SQ, SA, Name, Complex, BL, BQ, BV, BC, BM, tail, BB, HD, Form, CF, to_bodies, to_bindings, to_helpers, form_bytes}
+use Rattle.records.specs.declared.Kind.TheVariants.{Assign}
 use Rattle.outline.specs.Page.{computing_page, lines, page, page_call}
 
 -- records at location 0, with an empty R
@@ -50,7 +52,7 @@ several_lines = refl
 
 -- a call on an input at F 256, with a buffer of so many zeros: number, place, and the bytes written
 abbrev seen : Bytes → ℕ → ℕ × ℕ × Bytes
-seen input n = let r = page_call 256 65536 input (replicate n 0) in (r.0.refusal.number, r.0.refusal.place.start, take r.0.len r.1)
+seen input n = let r = page_call 256 65536 input (replicate n 0) in (refusal_number r.0.refusal, (refusal_place r.0.refusal).start, take r.0.len r.1)
 
 -- a buffer that is just long enough, and one byte short; a byte that is left over is refused first
 calls_hold :

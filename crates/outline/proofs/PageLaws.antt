@@ -25,7 +25,7 @@ use Rattle.outline.proofs.Joins.{joined_long, joined_append, each_here}
 use Rattle.outline.proofs.Lines.{line_long, page_joined, page_long}
 use Rattle.outline.proofs.Listed.{StandsIn, stands_small, form_stands, listing_counts, index_at}
 use Rattle.outline.proofs.Listings.{index_bytes_length}
-use Rattle.outline.proofs.NamePlaces.{mark_inside}
+use Rattle.outline.proofs.KnownMarks.{mark_inside}
 
 -- a list in front of, at and behind its k-th element
 record SplitAt {A : Type 0} (ls : List A) (k : ℕ) : Type 0 where
@@ -102,7 +102,7 @@ module _ {input : Bytes} {f : Form} {k : ℕ} {e : Entry} (r : EntryRecord input
       let st = r.stands in
       let fit = st.there.fits in
       record {
-        mark = omega (arith, fit, mark_inside r.outline st.of, part_length input at (length input - at) (omega arith));
+        mark = omega (arith, fit, mark_inside r.outline, part_length input at (length input - at) (omega arith));
         deep = omega (arith, fit, st.deep);
         room = omega (arith, part_length out q (length out - q) (omega arith));
       }

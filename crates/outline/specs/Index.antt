@@ -5,6 +5,7 @@ use Rattle.std.specs.Prelude.{Bool, true, false, ◌||◌, List, [], ◌∷◌, 
 use Rattle.names.specs.Names.{Bytes, number_field}
 use Rattle.records.specs.Records.{byte}
 use Rattle.records.specs.Lists.{joined}
+use Rattle.records.specs.declared.BodyMark.TheVariants as bodies
 use Rattle.outline.specs.declared.Around.{Around}
 use Rattle.outline.specs.declared.Entry.{Entry}
 use Rattle.outline.specs.declared.Mark.{Mark}
@@ -21,25 +22,8 @@ moved_on n a = record { offset = a.offset + n; depth = a.depth; inside = a.insid
 
 -- a BM
 unfoldable pub is_mod : Mark → Bool
-is_mod marks.Nil = false
-is_mod marks.Pair = false
-is_mod marks.Integer = false
-is_mod marks.Text = false
-is_mod marks.Atom = false
-is_mod marks.Let = false
-is_mod marks.Quoted = false
-is_mod marks.Value = false
-is_mod marks.Call = false
-is_mod marks.Mod = true
-is_mod marks.Lambda = false
-is_mod marks.Binding = false
-is_mod marks.Constant = false
-is_mod marks.Macro = false
-is_mod marks.Function = false
-is_mod marks.Namespace = false
-is_mod marks.Reference = false
-is_mod marks.Form = false
-is_mod marks.Unknown = false
+is_mod (marks.Body bodies.Mod) = true
+is_mod m = false
 
 -- one more record stands around the fields of a record, and it may be a BM; the offset is still that of the mark
 abbrev pub under : Mark → Around → Around

@@ -10,6 +10,9 @@ use Rattle.records.specs.declared.Family.TheVariants.{Body as a_Body, Binding as
 use Rattle.records.specs.Parts.{family_part}
 use Rattle.records.specs.Records.{byte, integer_field, kind_field, Sexp, SN, SC, SI, SQ, SA, Pattern, Name, Complex, Body, BL, BQ, BV, BC, BM, BF, Bodies, []ᵇ, ◌∷ᵇ◌, bodies_count, Tail, no_tail, tail, Binding, BB, Bindings, []ᵍ, ◌∷ᵍ◌, bindings_count, Helper, HC, HM, HD, HN, HR, Helpers, []ʰ, ◌∷ʰ◌, helpers_count, Form, CF}
 use Rattle.records.specs.Valid.{SexpFields, BodyFields, BindingFields, HelperFields, FormFields}
+use Rattle.records.specs.declared.SexpMark.TheVariants as sexps
+use Rattle.records.specs.declared.BodyMark.TheVariants as bodies
+use Rattle.records.specs.declared.HelperMark.TheVariants as helpers
 use Rattle.outline.specs.declared.Mark.{Mark}
 use Rattle.outline.specs.declared.Mark.TheVariants as marks
 
@@ -35,25 +38,24 @@ outline_name (node m n ps) = n
 
 -- the bytes of a mark
 unfoldable pub mark_bytes : Mark → Bytes
-mark_bytes marks.Nil = ascii "SN"
-mark_bytes marks.Pair = ascii "SC"
-mark_bytes marks.Integer = ascii "SI"
-mark_bytes marks.Text = ascii "SQ"
-mark_bytes marks.Atom = ascii "SA"
-mark_bytes marks.Let = ascii "BL"
-mark_bytes marks.Quoted = ascii "BQ"
-mark_bytes marks.Value = ascii "BV"
-mark_bytes marks.Call = ascii "BC"
-mark_bytes marks.Mod = ascii "BM"
-mark_bytes marks.Lambda = ascii "BF"
+mark_bytes (marks.Sexp sexps.Nil) = ascii "SN"
+mark_bytes (marks.Sexp sexps.Pair) = ascii "SC"
+mark_bytes (marks.Sexp sexps.Integer) = ascii "SI"
+mark_bytes (marks.Sexp sexps.Text) = ascii "SQ"
+mark_bytes (marks.Sexp sexps.Atom) = ascii "SA"
+mark_bytes (marks.Body bodies.Let) = ascii "BL"
+mark_bytes (marks.Body bodies.Quoted) = ascii "BQ"
+mark_bytes (marks.Body bodies.Value) = ascii "BV"
+mark_bytes (marks.Body bodies.Call) = ascii "BC"
+mark_bytes (marks.Body bodies.Mod) = ascii "BM"
+mark_bytes (marks.Body bodies.Lambda) = ascii "BF"
 mark_bytes marks.Binding = ascii "BB"
-mark_bytes marks.Constant = ascii "HC"
-mark_bytes marks.Macro = ascii "HM"
-mark_bytes marks.Function = ascii "HD"
-mark_bytes marks.Namespace = ascii "HN"
-mark_bytes marks.Reference = ascii "HR"
+mark_bytes (marks.Helper helpers.Constant) = ascii "HC"
+mark_bytes (marks.Helper helpers.Macro) = ascii "HM"
+mark_bytes (marks.Helper helpers.Function) = ascii "HD"
+mark_bytes (marks.Helper helpers.Namespace) = ascii "HN"
+mark_bytes (marks.Helper helpers.Reference) = ascii "HR"
 mark_bytes marks.Form = ascii "CF"
-mark_bytes marks.Unknown = []
 
 unfoldable mutual
   -- the bytes of a record
@@ -89,11 +91,11 @@ record_alone x = record_then x no_more
 
 -- an S record; a name is the first name field of an SQ and of an SA
 unfoldable pub sexp_outline : Sexp → Outline
-sexp_outline (SN l) = node marks.Nil None (bytes_then l no_more)
-sexp_outline (SC l h t) = node marks.Pair None (bytes_then l (record_then (sexp_outline h) (record_alone (sexp_outline t))))
-sexp_outline (SI l v) = node marks.Integer None (bytes_then l (bytes_then (integer_field v) no_more))
-sexp_outline (SQ l q n) = node marks.Text (Some n) (bytes_then l (bytes_then (byte q) (bytes_then (name_field n) no_more)))
-sexp_outline (SA l n) = node marks.Atom (Some n) (bytes_then l (bytes_then (name_field n) no_more))
+sexp_outline (SN l) = node (marks.Sexp sexps.Nil) None (bytes_then l no_more)
+sexp_outline (SC l h t) = node (marks.Sexp sexps.Pair) None (bytes_then l (record_then (sexp_outline h) (record_alone (sexp_outline t))))
+sexp_outline (SI l v) = node (marks.Sexp sexps.Integer) None (bytes_then l (bytes_then (integer_field v) no_more))
+sexp_outline (SQ l q n) = node (marks.Sexp sexps.Text) (Some n) (bytes_then l (bytes_then (byte q) (bytes_then (name_field n) no_more)))
+sexp_outline (SA l n) = node (marks.Sexp sexps.Atom) (Some n) (bytes_then l (bytes_then (name_field n) no_more))
 
 -- a pattern
 unfoldable pub pattern_pieces : Pattern → Pieces
@@ -109,13 +111,13 @@ unfoldable mutual
   -- a B record
   pub body_outline : Body → Outline
   body_outline (BL k l w h bs b) =
-      node marks.Let None (bytes_then (kind_field k) (bytes_then l (bytes_then w (bytes_then h (bytes_then (byte (bindings_count bs)) (bindings_pieces bs ++ᵖ record_alone (body_outline b)))))))
-  body_outline (BQ s) = node marks.Quoted None (record_alone (sexp_outline s))
-  body_outline (BV s) = node marks.Value None (record_alone (sexp_outline s))
-  body_outline (BC l bs t) = node marks.Call None (bytes_then l (bytes_then (byte (bodies_count bs)) (bodies_pieces bs ++ᵖ tail_pieces t)))
-  body_outline (BM l f) = node marks.Mod None (bytes_then l (record_alone (form_outline f)))
+      node (marks.Body bodies.Let) None (bytes_then (kind_field k) (bytes_then l (bytes_then w (bytes_then h (bytes_then (byte (bindings_count bs)) (bindings_pieces bs ++ᵖ record_alone (body_outline b)))))))
+  body_outline (BQ s) = node (marks.Body bodies.Quoted) None (record_alone (sexp_outline s))
+  body_outline (BV s) = node (marks.Body bodies.Value) None (record_alone (sexp_outline s))
+  body_outline (BC l bs t) = node (marks.Body bodies.Call) None (bytes_then l (bytes_then (byte (bodies_count bs)) (bodies_pieces bs ++ᵖ tail_pieces t)))
+  body_outline (BM l f) = node (marks.Body bodies.Mod) None (bytes_then l (record_alone (form_outline f)))
   body_outline (BF l w ca c a b) =
-      node marks.Lambda None (bytes_then l (bytes_then w (record_then (sexp_outline ca) (record_then (body_outline c) (record_then (sexp_outline a) (record_alone (body_outline b)))))))
+      node (marks.Body bodies.Lambda) None (bytes_then l (bytes_then w (record_then (sexp_outline ca) (record_then (body_outline c) (record_then (sexp_outline a) (record_alone (body_outline b)))))))
 
   -- the elements of a call
   pub bodies_pieces : Bodies → Pieces
@@ -138,13 +140,13 @@ unfoldable mutual
 
   -- an H record: each has a name
   pub helper_outline : Helper → Outline
-  helper_outline (HC l n r b) = node marks.Constant (Some n) (bytes_then l (bytes_then (name_field n) (bytes_then r (record_alone (body_outline b)))))
+  helper_outline (HC l n r b) = node (marks.Helper helpers.Constant) (Some n) (bytes_then l (bytes_then (name_field n) (bytes_then r (record_alone (body_outline b)))))
   helper_outline (HM l n r a f) =
-      node marks.Macro (Some n) (bytes_then l (bytes_then (name_field n) (bytes_then r (record_then (sexp_outline a) (record_alone (form_outline f))))))
+      node (marks.Helper helpers.Macro) (Some n) (bytes_then l (bytes_then (name_field n) (bytes_then r (record_then (sexp_outline a) (record_alone (form_outline f))))))
   helper_outline (HD l i n r a b) =
-      node marks.Function (Some n) (bytes_then l (bytes_then (byte i) (bytes_then (name_field n) (bytes_then r (record_then (sexp_outline a) (record_alone (body_outline b)))))))
-  helper_outline (HN l n r hs) = node marks.Namespace (Some n) (bytes_then l (bytes_then (name_field n) (bytes_then r (bytes_then (byte (helpers_count hs)) (helpers_pieces hs)))))
-  helper_outline (HR l n r) = node marks.Reference (Some n) (bytes_then l (bytes_then (name_field n) (bytes_then r no_more)))
+      node (marks.Helper helpers.Function) (Some n) (bytes_then l (bytes_then (byte i) (bytes_then (name_field n) (bytes_then r (record_then (sexp_outline a) (record_alone (body_outline b)))))))
+  helper_outline (HN l n r hs) = node (marks.Helper helpers.Namespace) (Some n) (bytes_then l (bytes_then (name_field n) (bytes_then r (bytes_then (byte (helpers_count hs)) (helpers_pieces hs)))))
+  helper_outline (HR l n r) = node (marks.Helper helpers.Reference) (Some n) (bytes_then l (bytes_then (name_field n) (bytes_then r no_more)))
 
   -- helpers
   pub helpers_pieces : Helpers → Pieces

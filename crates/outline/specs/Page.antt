@@ -6,6 +6,7 @@ use Rattle.std.specs.declared.option.Option.TheVariants.{Some, None}
 use Rattle.names.specs.CallAnswer.{CallResult, accepted_answer, refused_answer, written}
 use Rattle.names.specs.Names.{Bytes, ascii}
 use Rattle.names.specs.Refusals.{placeless}
+use Rattle.names.specs.declared.Reason.TheVariants.{ShortPage}
 use Rattle.records.specs.Limits.{level_limit}
 use Rattle.records.specs.Lists.{joined}
 use Rattle.records.specs.Opened.{opened, closed, read_input}
@@ -62,7 +63,7 @@ unfoldable pub laid_out : Bytes → Form → CallResult
 laid_out buffer f =
     elim (leb ((line_width + 1) * outline_records (form_outline f)) (length buffer)) [
       | true ↦ (accepted_answer 0 0 (length (page f)), written (page f) buffer)
-      | false ↦ refused_answer 0 buffer (placeless 9)
+      | false ↦ refused_answer 0 buffer (placeless ShortPage)
     ]
 
 -- the call Page: the reading refusals, then 9; there is no counter

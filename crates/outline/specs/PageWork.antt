@@ -10,6 +10,8 @@ use Rattle.records.specs.Limits.{most_longest}
 use Rattle.records.specs.Records.{mark_width, loc_width, head_width, Form, form_bytes}
 use Rattle.records.specs.Valid.{ValidName, FormFields}
 use Rattle.records.specs.declared.NameView.{NameView}
+use Rattle.records.specs.declared.SexpMark.TheVariants as sexps
+use Rattle.records.specs.declared.HelperMark.TheVariants as helpers
 use Rattle.outline.specs.declared.Entry.{Entry}
 use Rattle.outline.specs.declared.Mark.{Mark}
 use Rattle.outline.specs.declared.Mark.TheVariants as marks
@@ -19,33 +21,20 @@ use Rattle.outline.specs.Outline.{Outline, outline_name, outline_bytes, OutlineO
 use Rattle.outline.specs.Index.{nothing_around, outline_listing, index_bytes}
 use Rattle.outline.specs.Page.{line_width, line, page}
 
--- where the first name field of a record stands that is its own
-unfoldable pub name_place : Mark → NamePlace
-name_place marks.Nil = places.Nowhere
-name_place marks.Pair = places.Nowhere
-name_place marks.Integer = places.Nowhere
-name_place marks.Text = places.At (head_width + 1)
-name_place marks.Atom = places.At head_width
-name_place marks.Let = places.Nowhere
-name_place marks.Quoted = places.Nowhere
-name_place marks.Value = places.Nowhere
-name_place marks.Call = places.Nowhere
-name_place marks.Mod = places.Nowhere
-name_place marks.Lambda = places.Nowhere
-name_place marks.Binding = places.Pattern (head_width + loc_width)
-name_place marks.Constant = places.At head_width
-name_place marks.Macro = places.At head_width
-name_place marks.Function = places.At (head_width + 1)
-name_place marks.Namespace = places.At head_width
-name_place marks.Reference = places.At head_width
-name_place marks.Form = places.Nowhere
-name_place marks.Unknown = places.Nowhere
+-- where the first name field of a record stands that is its own, if it has one
+unfoldable pub name_place : Mark → Option NamePlace
+name_place (marks.Sexp sexps.Text) = Some (places.At (head_width + 1))
+name_place (marks.Sexp sexps.Atom) = Some (places.At head_width)
+name_place marks.Binding = Some (places.Pattern (head_width + loc_width))
+name_place (marks.Helper helpers.Function) = Some (places.At (head_width + 1))
+name_place (marks.Helper h) = Some (places.At head_width)
+name_place m = None
 
 -- it stands before the pattern of a BB, or at it
-abbrev pub PlaceLow : NamePlace → Type 0
-PlaceLow places.Nowhere = Unit {0}
-PlaceLow (places.At p) = p ≤ head_width + loc_width
-PlaceLow (places.Pattern p) = p ≤ head_width + loc_width
+abbrev pub PlaceLow : Option NamePlace → Type 0
+PlaceLow None = Unit {0}
+PlaceLow (Some (places.At p)) = p ≤ head_width + loc_width
+PlaceLow (Some (places.Pattern p)) = p ≤ head_width + loc_width
 
 -- a name stands within s
 abbrev pub LabelWithin : Bytes → Option NameView → Type 0

@@ -1,20 +1,18 @@
 -- The mark of a record, the fields that follow it, and the outlines that are shaped so; what the functions that list records ask and say.
 -- Assumes nothing.
-use Rattle.std.specs.Prelude.{◌≡◌, true, false, List, [], ◌∷◌, ℕ, ◌+◌, ◌*◌, ◌^◌, ◌≤◌, ◌<◌, length, take}
+use Rattle.std.specs.Prelude.{◌≡◌, List, [], ◌∷◌, ℕ, ◌+◌, ◌*◌, ◌^◌, ◌≤◌, ◌<◌, length, take}
 use Rattle.std.specs.declared.option.Option.{Option}
-use Rattle.std.specs.declared.option.Option.TheVariants.{Some, None}
+use Rattle.std.specs.Bool.{then_some}
+use Rattle.std.specs.Option.{option_or, option_map}
 use Rattle.names.specs.Names.{Bytes, ascii, same, name_field}
 use Rattle.names.specs.Segments.{At}
 use Rattle.records.specs.Limits.{most_longest}
-use Rattle.records.specs.Records.{mark_width, loc_width, byte, integer_field}
-use Rattle.records.specs.Scan.{mark_index, sexp_marks, sexp_mark_at, body_marks, body_mark_at, helper_marks, helper_mark_at}
+use Rattle.records.specs.Records.{loc_width, byte, integer_field}
+use Rattle.records.specs.Scan.{sexp_mark_of, body_mark_of, helper_mark_of}
 use Rattle.records.specs.Valid.{ValidName, ValidRaw, ValidKeyword, ValidHint, ValidInteger}
-use Rattle.records.specs.declared.SexpMark.{SexpMark}
-use Rattle.records.specs.declared.SexpMark.TheVariants as sexp_marks_of
-use Rattle.records.specs.declared.BodyMark.{BodyMark}
-use Rattle.records.specs.declared.BodyMark.TheVariants as body_marks_of
-use Rattle.records.specs.declared.HelperMark.{HelperMark}
-use Rattle.records.specs.declared.HelperMark.TheVariants as helper_marks_of
+use Rattle.records.specs.declared.SexpMark.TheVariants as sexps
+use Rattle.records.specs.declared.BodyMark.TheVariants as bodies
+use Rattle.records.specs.declared.HelperMark.TheVariants as helpers
 use Rattle.outline.specs.declared.Around.{Around}
 use Rattle.outline.specs.declared.Counted.{Counted}
 use Rattle.outline.specs.declared.Entry.{Entry}
@@ -22,82 +20,37 @@ use Rattle.outline.specs.declared.Field.{Field}
 use Rattle.outline.specs.declared.Field.TheVariants as fields
 use Rattle.outline.specs.declared.Mark.{Mark}
 use Rattle.outline.specs.declared.Mark.TheVariants as marks
-use Rattle.outline.specs.Outline.{Outline, node, Pieces, no_more, bytes_then, record_then, record_alone, ◌++ᵖ◌, mark_bytes, outline_bytes, pieces_bytes}
+use Rattle.outline.specs.Outline.{Outline, node, Pieces, no_more, bytes_then, record_then, record_alone, ◌++ᵖ◌, outline_bytes, pieces_bytes}
 use Rattle.outline.specs.Index.{moved_on, outline_listing, pieces_listing, place_width, entry_width, entry_bytes, index_bytes}
 
--- the mark that two bytes are: BB, CF or none
-unfoldable pub binding_or_form : Bytes → Mark
-binding_or_form x = elim (same x (ascii "BB")) [ true ↦ marks.Binding | false ↦ elim (same x (ascii "CF")) [ true ↦ marks.Form | false ↦ marks.Unknown ] ]
-
--- the mark of an H record, or else m
-abbrev pub of_helper : Mark → Option HelperMark → Mark
-of_helper m (Some helper_marks_of.Constant) = marks.Constant
-of_helper m (Some helper_marks_of.Macro) = marks.Macro
-of_helper m (Some helper_marks_of.Function) = marks.Function
-of_helper m (Some helper_marks_of.Namespace) = marks.Namespace
-of_helper m (Some helper_marks_of.Reference) = marks.Reference
-of_helper m None = m
-
--- one that is of no S and of no B record
-abbrev pub helper_or_other : Bytes → Mark
-helper_or_other x = of_helper (binding_or_form x) (helper_mark_at (mark_index x helper_marks))
-
--- of a B record
-abbrev pub of_body : Mark → Option BodyMark → Mark
-of_body m (Some body_marks_of.Let) = marks.Let
-of_body m (Some body_marks_of.Quoted) = marks.Quoted
-of_body m (Some body_marks_of.Value) = marks.Value
-of_body m (Some body_marks_of.Call) = marks.Call
-of_body m (Some body_marks_of.Mod) = marks.Mod
-of_body m (Some body_marks_of.Lambda) = marks.Lambda
-of_body m None = m
-
--- one that is of no S record
-abbrev pub body_or_other : Bytes → Mark
-body_or_other x = of_body (helper_or_other x) (body_mark_at (mark_index x body_marks))
-
--- of an S record
-abbrev pub of_sexp : Mark → Option SexpMark → Mark
-of_sexp m (Some sexp_marks_of.Nil) = marks.Nil
-of_sexp m (Some sexp_marks_of.Pair) = marks.Pair
-of_sexp m (Some sexp_marks_of.Integer) = marks.Integer
-of_sexp m (Some sexp_marks_of.Text) = marks.Text
-of_sexp m (Some sexp_marks_of.Atom) = marks.Atom
-of_sexp m None = m
-
--- any mark, or Unknown
-abbrev pub first_mark : Bytes → Mark
-first_mark x = of_sexp (body_or_other x) (sexp_mark_at (mark_index x sexp_marks))
-
--- six fields, of which the last ones may be none
-abbrev pub six : Field → Field → Field → Field → Field → Field → List Field
-six a b c d e f = a ∷ b ∷ c ∷ d ∷ e ∷ f ∷ []
-
--- the most fields that follow a mark
-abbrev pub most_fields : ℕ
-most_fields = 6
+-- the mark of an S, B or H record, BB, CF, or none
+abbrev pub first_mark : Bytes → Option Mark
+first_mark x =
+    option_or (option_map marks.Sexp (sexp_mark_of x))
+    (option_or (option_map marks.Body (body_mark_of x))
+    (option_or (option_map marks.Helper (helper_mark_of x))
+    (option_or (then_some (same x (ascii "BB")) marks.Binding) (then_some (same x (ascii "CF")) marks.Form))))
 
 -- the fields that follow a mark
 unfoldable pub fields_of : Mark → List Field
-fields_of marks.Nil = six fields.Loc fields.Nothing fields.Nothing fields.Nothing fields.Nothing fields.Nothing
-fields_of marks.Pair = six fields.Loc fields.Record fields.Record fields.Nothing fields.Nothing fields.Nothing
-fields_of marks.Integer = six fields.Loc fields.Number fields.Nothing fields.Nothing fields.Nothing fields.Nothing
-fields_of marks.Text = six fields.Loc fields.Byte fields.Name fields.Nothing fields.Nothing fields.Nothing
-fields_of marks.Atom = six fields.Loc fields.Name fields.Nothing fields.Nothing fields.Nothing fields.Nothing
-fields_of marks.Let = six fields.Byte fields.Loc fields.Keyword fields.Hint fields.Several fields.Record
-fields_of marks.Quoted = six fields.Record fields.Nothing fields.Nothing fields.Nothing fields.Nothing fields.Nothing
-fields_of marks.Value = six fields.Record fields.Nothing fields.Nothing fields.Nothing fields.Nothing fields.Nothing
-fields_of marks.Call = six fields.Loc fields.Several fields.Tail fields.Nothing fields.Nothing fields.Nothing
-fields_of marks.Mod = six fields.Loc fields.Record fields.Nothing fields.Nothing fields.Nothing fields.Nothing
-fields_of marks.Lambda = six fields.Loc fields.Keyword fields.Record fields.Record fields.Record fields.Record
-fields_of marks.Binding = six fields.Loc fields.Loc fields.Pattern fields.Record fields.Nothing fields.Nothing
-fields_of marks.Constant = six fields.Loc fields.Name fields.Raw fields.Record fields.Nothing fields.Nothing
-fields_of marks.Macro = six fields.Loc fields.Name fields.Raw fields.Record fields.Record fields.Nothing
-fields_of marks.Function = six fields.Loc fields.Byte fields.Name fields.Raw fields.Record fields.Record
-fields_of marks.Namespace = six fields.Loc fields.Name fields.Raw fields.Several fields.Nothing fields.Nothing
-fields_of marks.Reference = six fields.Loc fields.Name fields.Raw fields.Nothing fields.Nothing fields.Nothing
-fields_of marks.Form = six fields.Loc fields.Raw fields.Record fields.Several fields.Record fields.Nothing
-fields_of marks.Unknown = six fields.Nothing fields.Nothing fields.Nothing fields.Nothing fields.Nothing fields.Nothing
+fields_of (marks.Sexp sexps.Nil) = fields.Loc ∷ []
+fields_of (marks.Sexp sexps.Pair) = fields.Loc ∷ fields.Record ∷ fields.Record ∷ []
+fields_of (marks.Sexp sexps.Integer) = fields.Loc ∷ fields.Number ∷ []
+fields_of (marks.Sexp sexps.Text) = fields.Loc ∷ fields.Byte ∷ fields.Name ∷ []
+fields_of (marks.Sexp sexps.Atom) = fields.Loc ∷ fields.Name ∷ []
+fields_of (marks.Body bodies.Let) = fields.Byte ∷ fields.Loc ∷ fields.Keyword ∷ fields.Hint ∷ fields.Several ∷ fields.Record ∷ []
+fields_of (marks.Body bodies.Quoted) = fields.Record ∷ []
+fields_of (marks.Body bodies.Value) = fields.Record ∷ []
+fields_of (marks.Body bodies.Call) = fields.Loc ∷ fields.Several ∷ fields.Tail ∷ []
+fields_of (marks.Body bodies.Mod) = fields.Loc ∷ fields.Record ∷ []
+fields_of (marks.Body bodies.Lambda) = fields.Loc ∷ fields.Keyword ∷ fields.Record ∷ fields.Record ∷ fields.Record ∷ fields.Record ∷ []
+fields_of marks.Binding = fields.Loc ∷ fields.Loc ∷ fields.Pattern ∷ fields.Record ∷ []
+fields_of (marks.Helper helpers.Constant) = fields.Loc ∷ fields.Name ∷ fields.Raw ∷ fields.Record ∷ []
+fields_of (marks.Helper helpers.Macro) = fields.Loc ∷ fields.Name ∷ fields.Raw ∷ fields.Record ∷ fields.Record ∷ []
+fields_of (marks.Helper helpers.Function) = fields.Loc ∷ fields.Byte ∷ fields.Name ∷ fields.Raw ∷ fields.Record ∷ fields.Record ∷ []
+fields_of (marks.Helper helpers.Namespace) = fields.Loc ∷ fields.Name ∷ fields.Raw ∷ fields.Several ∷ []
+fields_of (marks.Helper helpers.Reference) = fields.Loc ∷ fields.Name ∷ fields.Raw ∷ []
+fields_of marks.Form = fields.Loc ∷ fields.Raw ∷ fields.Record ∷ fields.Several ∷ fields.Record ∷ []
 
 -- records one behind the other
 unfoldable pub records_then : List Outline → Pieces
@@ -115,9 +68,9 @@ pub data PlainField : Field → Bytes → Type 0 where
   a_raw : (r : Bytes) → ValidRaw r → PlainField fields.Raw r
 
 mutual
-  -- a record whose mark is known and whose fields are those of its mark
+  -- a record whose fields are those of its mark
   pub data InShape : Outline → Type 0 where
-    in_shape : {m : Mark} {n : Option Bytes} {ps : Pieces} → length (mark_bytes m) ≡ mark_width → FieldsAre (fields_of m) ps → InShape (node m n ps)
+    in_shape : {m : Mark} {n : Option Bytes} {ps : Pieces} → FieldsAre (fields_of m) ps → InShape (node m n ps)
 
   -- each of them
   pub data AllInShape : List Outline → Type 0 where
@@ -129,9 +82,8 @@ mutual
     no_fields : FieldsAre [] no_more
     more_fields : {f : Field} {fs : List Field} {p ps : Pieces} → FieldIs f p → FieldsAre fs ps → FieldsAre (f ∷ fs) (p ++ᵖ ps)
 
-  -- a field: none, bytes, a record, or bytes that say what follows
+  -- a field: bytes, a record, or bytes that say what follows
   pub data FieldIs : Field → Pieces → Type 0 where
-    no_field : FieldIs fields.Nothing no_more
     a_plain_field : {f : Field} {bs : Bytes} → PlainField f bs → FieldIs f (bytes_then bs no_more)
     a_record : {x : Outline} → InShape x → FieldIs fields.Record (record_alone x)
     a_name_pattern : (n : Bytes) → ValidName n → FieldIs fields.Pattern (bytes_then (byte 0) (bytes_then (name_field n) no_more))
@@ -139,13 +91,6 @@ mutual
     no_tail_field : FieldIs fields.Tail (bytes_then (byte 0) no_more)
     a_tail_field : {x : Outline} → InShape x → FieldIs fields.Tail (bytes_then (byte 1) (record_alone x))
     several_records : (xs : List Outline) → AllInShape xs → FieldIs fields.Several (bytes_then (byte (length xs)) (records_then xs))
-
--- where a field without records ends
-pub record PastField (f : Field) (s : Bytes) (at r : ℕ) : Type 0 where
-  pub within : r ≤ length s
-  pub onward : at ≤ r
-  pub past : (bs : Bytes) → PlainField f bs → At s at bs → r ≡ at + length bs
-  pub still : f ≡ fields.Nothing → r ≡ at
 
 -- so many records are listed, up to there
 abbrev pub counted_to : ℕ → ℕ → Counted

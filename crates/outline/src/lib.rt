@@ -9,34 +9,21 @@ pub mod index;
 pub mod marks;
 pub mod page;
 
+use records::{BodyMark, HelperMark, SexpMark};
+
 // The mark of each kind of record.
 #[derive(Clone, Copy)]
 pub enum Mark {
-    Nil,
-    Pair,
-    Integer,
-    Text,
-    Atom,
-    Let,
-    Quoted,
-    Value,
-    Call,
-    Mod,
-    Lambda,
+    Sexp(SexpMark),
+    Body(BodyMark),
+    Helper(HelperMark),
     Binding,
-    Constant,
-    Macro,
-    Function,
-    Namespace,
-    Reference,
     Form,
-    Unknown,
 }
 
 // The fields behind a mark: bytes, records, or bytes that say which and how many records follow.
 #[derive(Clone, Copy)]
 pub enum Field {
-    Nothing,
     Byte,
     Loc,
     Keyword,
@@ -49,9 +36,6 @@ pub enum Field {
     Tail,
     Several,
 }
-
-// The most fields that follow a mark.
-pub const MOST_FIELDS: usize = 6;
 
 // Where a record stands: the offset of its mark, how many records stand around it, and whether one of
 // them is a BM.
@@ -85,11 +69,10 @@ pub const ENTRY_WIDTH: usize = 3 * PLACE_WIDTH + 1;
 // The characters of a line.
 pub const LINE_WIDTH: usize = 72;
 
-// Where the first name field of a record stands that is its own: nowhere, at a place, or in a pattern
-// at a place.
+// Where the first name field of a record stands that is its own: at a place, or in a pattern at a
+// place.
 #[derive(Clone, Copy)]
 pub enum NamePlace {
-    Nowhere,
     At(usize),
     Pattern(usize),
 }

@@ -9,25 +9,26 @@ use crate::entries::entry_at;
 use crate::index::index_input;
 use crate::marks::first_mark;
 use crate::{LINE_WIDTH, Mark, NamePlace};
-use names::Answer;
 use names::call::{accepted, refused};
 use names::refusals::placeless;
+use names::{Answer, Reason};
 use records::input::read_input;
 use records::past::{byte_at, name_view};
-use records::{HEAD_WIDTH, LOC_WIDTH, MARK_WIDTH, NameView, Wanted};
+use records::{HEAD_WIDTH, HelperMark, LOC_WIDTH, MARK_WIDTH, NameView, SexpMark, Wanted};
 
-// Where the first name field of a record stands that is its own.
-fn name_place(mark: Mark) -> NamePlace
+// Where the first name field of a record stands that is its own, if it has one.
+#[tactic(auto, unfolding(crate::specs::PageWork::name_place))]
+fn name_place(mark: Mark) -> Option<NamePlace>
     ensures value { result ≡ name_place mark }
     ensures place_low { PlaceLow result }
 {
     match mark {
-        Mark::Atom | Mark::Constant | Mark::Macro | Mark::Namespace | Mark::Reference => {
-            NamePlace::At(HEAD_WIDTH)
+        Mark::Sexp(SexpMark::Text) | Mark::Helper(HelperMark::Function) => {
+            Some(NamePlace::At(HEAD_WIDTH + 1))
         }
-        Mark::Text | Mark::Function => NamePlace::At(HEAD_WIDTH + 1),
-        Mark::Binding => NamePlace::Pattern(HEAD_WIDTH + LOC_WIDTH),
-        _ => NamePlace::Nowhere,
+        Mark::Sexp(SexpMark::Atom) | Mark::Helper(_) => Some(NamePlace::At(HEAD_WIDTH)),
+        Mark::Binding => Some(NamePlace::Pattern(HEAD_WIDTH + LOC_WIDTH)),
+        _ => None,
     }
 }
 
@@ -45,50 +46,34 @@ fn named(s: &[u8], at: usize) -> Option<NameView>
 fn label(s: &[u8]) -> Option<NameView>
     ensures { Labels s.now result }
 {
-    match name_place(first_mark(s)) {
-        NamePlace::Nowhere => None,
+    match name_place(first_mark(s)?)? {
         NamePlace::At(at) => named(s, at),
-        NamePlace::Pattern(at) => {
-            if byte_at(s, at) != 0 {
-                return None;
-            }
-            named(s, at + 1)
-        }
+        NamePlace::Pattern(at) if byte_at(s, at) == 0 => named(s, at + 1),
+        NamePlace::Pattern(_) => None,
     }
 }
 
 // A byte outside 21 to 7E prints as a dot.
+#[tactic(auto, unfolding(crate::specs::Page::visible))]
 pub fn visible(b: u8) -> u8
     ensures { result ≡ visible b }
 {
-    if b < 33 {
-        return b'.';
+    match b {
+        0x21..=0x7e => b,
+        _ => b'.',
     }
-    if b > 126 {
-        return b'.';
-    }
-    b
 }
 
 // The character at a place of a name as it prints, and behind it a space.
+#[tactic(auto, using(crate::proofs::Characters::name_characters))]
 fn shown_at(s: &[u8], name: Option<NameView>, k: usize) -> u8
     requires { LabelWithin s.now name }
     ensures { result ≡ get_or (shown (label_name s.now name)) k 32 }
 {
     match name {
-        None => {
-            if k == 0 {
-                return b'-';
-            }
-            b' '
-        }
-        Some(v) => {
-            let start = v.start;
-            if k < v.end - start {
-                return visible(s[start + k]);
-            }
-            b' '
-        }
+        None if k == 0 => b'-',
+        Some(v) if k < v.end - v.start => visible(s[v.start + k]),
+        _ => b' ',
     }
 }
 
@@ -146,7 +131,7 @@ pub fn page_call(f: usize, work: &mut [u8], input: &[u8], res: &mut [u8]) -> Ans
             let n = c.count;
             let len = (LINE_WIDTH + 1) * n;
             if res.len() < len {
-                return refused(placeless(9), 0);
+                return refused(placeless(Reason::ShortPage), 0);
             }
             lay_out(input, work, n, res);
             accepted(0, 0, len)

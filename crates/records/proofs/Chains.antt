@@ -3,7 +3,7 @@ use mathlib.Core.Path.{◌≡◌}
 use mathlib.Core.List.{[]}
 use Prim.Native.Nat.{ℕ, ◌≤◌}
 use native.Mathlib.Omega.{arith}
-use lib.ListN.{length, get_or}
+use lib.ListN.{get_or}
 use Rattle.std.specs.Prelude.{Result, Ok, Err, IsErrAnd}
 use Rattle.names.specs.Names.{Bytes}
 use Rattle.names.specs.declared.Refusal.{Refusal}
@@ -22,32 +22,32 @@ pub data Step (R : Result Scan Refusal → Type 0) (K : Scan → Type 0) (r : Re
   stop : {e : Refusal} → R (Err e) → IsErrAnd r (λ y. y ≡ e) → Step R K r
 
 -- a field, and then K; a record, and then K
-abbrev pub Field : {A : Type 0} → Reader A → ℕ → Bytes → Scan → Result Scan Refusal → (Scan → Type 0) → Type 0
-Field m mark s c r K = Step (Reads m mark s c) K r
+abbrev pub Field : {A : Type 0} → Reader A → ℕ → Scan → Result Scan Refusal → (Scan → Type 0) → Type 0
+Field m mark c r K = Step (Reads m mark c) K r
 
-abbrev pub Child : (ℕ → AnyReader) → Context → Bytes → Scan → Result Scan Refusal → (Scan → Type 0) → Type 0
-Child m x s c r K = Step (Goes m x s c) K r
+abbrev pub Child : (ℕ → AnyReader) → Context → Scan → Result Scan Refusal → (Scan → Type 0) → Type 0
+Child m x c r K = Step (Goes m x c) K r
 
-module _ {A B : Type 0} {P : A → Type 0} {f : A → Bytes} {m : Reader A} {k : A → Reader B} {x : Context} {s : Bytes} {c : Scan} {r : Result Scan Refusal} {K : Scan → Type 0} where
-  comes_step : {R : Result Scan Refusal → Type 0} → Exact P f [] m → c.at ≤ length s → ((q : Result Scan Refusal) → R q → Comes m x s c q) → Step R K r
-      → ((a : A) (d : Scan) → d.at ≤ length s → K d → Comes (k a) x s d r) → Comes (m >>= k) x s c r
-  comes_step e l g (past h n) t = let w = g _ h in comes_bind k e l w (λ a. t a _ w.within n)
-  comes_step e l g (stop h z) t = comes_stop k (g _ h) z
+module _ {A B : Type 0} {P : A → Type 0} {f : A → Bytes} {m : Reader A} {k : A → Reader B} {x : Context} {c : Scan} {r : Result Scan Refusal} {K : Scan → Type 0} where
+  comes_step : {R : Result Scan Refusal → Type 0} → Exact P f [] m → ((q : Result Scan Refusal) → R q → Comes m x c q) → Step R K r
+      → ((a : A) (d : Scan) → K d → Comes (k a) x d r) → Comes (m >>= k) x c r
+  comes_step e g (past h n) t = comes_bind k e (g _ h) (λ a. t a _ n)
+  comes_step e g (stop h z) t = comes_stop k (g _ h) z
 
-  pub field : {mark : ℕ} → x.mark ≡ mark → Exact P f [] m → c.at ≤ length s → Field m mark s c r K → ((a : A) (d : Scan) → d.at ≤ length s → K d → Comes (k a) x s d r) → Comes (m >>= k) x s c r
-  field q e l h t = comes_step e l (λ v g. comes_of g x q) h t
+  pub field : {mark : ℕ} → x.mark ≡ mark → Exact P f [] m → Field m mark c r K → ((a : A) (d : Scan) → K d → Comes (k a) x d r) → Comes (m >>= k) x c r
+  field q e h t = comes_step e (λ v g. comes_of g x q) h t
 
 -- a byte, by its place, and then what depends on it
-module _ {B : Type 0} {P : ℕ → Type 0} {m : Reader ℕ} (k : ℕ → Reader B) {x : Context} {s : Bytes} {c : Scan} {r : Result Scan Refusal} {K : Scan → Type 0} where
-  pub byte_field : {mark : ℕ} → x.mark ≡ mark → Exact P byte [] m → c.at ≤ length s → Field m mark s c r K → ((d : Scan) → d.at ≤ length s → K d → Comes (k (get_or s c.at 0)) x s d r) → Comes (m >>= k) x s c r
-  byte_field q e l (past h n) t = comes_byte e l (comes_of h x q) k (t _ h.within n)
-  byte_field q e l (stop h z) t = comes_stop k (comes_of h x q) z
+module _ {B : Type 0} {P : ℕ → Type 0} {m : Reader ℕ} (k : ℕ → Reader B) {x : Context} {c : Scan} {r : Result Scan Refusal} {K : Scan → Type 0} where
+  pub byte_field : {mark : ℕ} → x.mark ≡ mark → Exact P byte [] m → Field m mark c r K → ((d : Scan) → K d → Comes (k (get_or c.s.now c.at 0)) x d r) → Comes (m >>= k) x c r
+  byte_field q e (past h n) t = comes_byte e (comes_of h x q) k (t _ n)
+  byte_field q e (stop h z) t = comes_stop k (comes_of h x q) z
 
 -- what is so for every fuel
-pub goes_of : {m : ℕ → AnyReader} {x : Context} {s : Bytes} {c : Scan} {r : Result Scan Refusal} → ((fuel : ℕ) → x.room ≤ fuel → Comes (m fuel).1 x s c r) → Goes m x s c r
-goes_of {x} h = record { enough = h; within = (h x.room (omega arith)).within }
+pub goes_of : {m : ℕ → AnyReader} {x : Context} {c : Scan} {r : Result Scan Refusal} → ((fuel : ℕ) → x.room ≤ fuel → Comes (m fuel).1 x c r) → Goes m x c r
+goes_of {x} h = record { enough = h; same = (h x.room (omega arith)).same }
 
-module _ {B : Type 0} {m : ℕ → AnyReader} {x : Context} {s : Bytes} {c : Scan} {r : Result Scan Refusal} {K : Scan → Type 0} where
-  pub child : (fuel : ℕ) {P : (m fuel).0 → Type 0} {f : (m fuel).0 → Bytes} {k : (m fuel).0 → Reader B} → x.room ≤ fuel → Exact P f [] (m fuel).1 → c.at ≤ length s → Child m x s c r K
-      → ((a : (m fuel).0) (d : Scan) → d.at ≤ length s → K d → Comes (k a) x s d r) → Comes ((m fuel).1 >>= k) x s c r
-  child fuel u e l h t = comes_step e l (λ v g. g.enough fuel u) h t
+module _ {B : Type 0} {m : ℕ → AnyReader} {x : Context} {c : Scan} {r : Result Scan Refusal} {K : Scan → Type 0} where
+  pub child : (fuel : ℕ) {P : (m fuel).0 → Type 0} {f : (m fuel).0 → Bytes} {k : (m fuel).0 → Reader B} → x.room ≤ fuel → Exact P f [] (m fuel).1 → Child m x c r K
+      → ((a : (m fuel).0) (d : Scan) → K d → Comes (k a) x d r) → Comes ((m fuel).1 >>= k) x c r
+  child fuel u e h t = comes_step e (λ v g. g.enough fuel u) h t

@@ -6,7 +6,9 @@ use Prim.Native.Nat.{ℕ, zero, suc, ◌+◌, ◌-◌, ◌≤◌}
 use native.Mathlib.Omega.{arith}
 use Rattle.names.specs.Names.{Bytes, ascii, same}
 use Rattle.records.specs.Limits.{level_limit, lambda_limit}
-use Rattle.records.specs.Records.{Loc, byte, record_bytes, Kind, Assign, kind_field, Body, BL, BQ, BV, BC, BM, BF, body_bytes, Bodies, []ᵇ, ◌∷ᵇ◌, bodies_bytes, Tail, no_tail, tail, tail_bytes, Binding, BB, binding_bytes, Bindings, []ᵍ, ◌∷ᵍ◌, bindings_bytes, Helper, HC, HM, HD, HN, HR, helper_bytes, Helpers, []ʰ, ◌∷ʰ◌, helpers_bytes, Form, CF, form_bytes, to_bodies, to_bindings, list_of, to_helpers, bodies_count, bindings_count, helpers_count}
+use Rattle.records.specs.Records.{Loc, byte, record_bytes, kind_field, Body, BL, BQ, BV, BC, BM, BF, body_bytes, Bodies, []ᵇ, ◌∷ᵇ◌, bodies_bytes, Tail, no_tail, tail, tail_bytes, Binding, BB, binding_bytes, Bindings, []ᵍ, ◌∷ᵍ◌, bindings_bytes, Helper, HC, HM, HD, HN, HR, helper_bytes, Helpers, []ʰ, ◌∷ʰ◌, helpers_bytes, Form, CF, form_bytes, to_bodies, to_bindings, list_of, to_helpers, bodies_count, bindings_count, helpers_count}
+use Rattle.records.specs.declared.Kind.{Kind}
+use Rattle.records.specs.declared.Kind.TheVariants.{Assign}
 use Rattle.records.proofs.Depth.{levels_split}
 use Rattle.records.proofs.LeastMods.{least_none, form_least}
 use Rattle.records.proofs.FirstMods.{behind, first_in, body_first, bodies_first, tail_first, binding_first, bindings_first, helper_first, helpers_first, form_first}

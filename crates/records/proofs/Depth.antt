@@ -10,7 +10,9 @@ use lib.Dec.{leb, eqb, leb→le}
 use lib.ListN.{length}
 use Rattle.names.specs.Names.{Bytes, ascii, same}
 use Rattle.names.specs.Refusals.{place_at}
-use Rattle.records.specs.Records.{mark_width, Kind, Parallel, Sequential, Assign, Body, Binding, Helper, Form, to_bodies, to_bindings, to_helpers}
+use Rattle.records.specs.Records.{mark_width, Body, Binding, Helper, Form, to_bodies, to_bindings, to_helpers}
+use Rattle.records.specs.declared.Kind.{Kind}
+use Rattle.records.specs.declared.Kind.TheVariants.{Parallel, Sequential, Assign}
 use Rattle.records.specs.Depth.{levels, depth, bodies_depth, tail_depth, binding_depth, bindings_depth, helper_depth, helpers_depth, form_depth}
 use Rattle.records.proofs.Readers.{Any, not_done, same_value, T_of, reads_whole}
 use Rattle.records.proofs.Exact.{bindings_counted}

@@ -16,7 +16,9 @@ use Rattle.names.proofs.Same.{same→eq}
 use Rattle.records.specs.Lists.{joined}
 use Rattle.records.specs.Limits.{level_limit, cons_limit, count_limit}
 use Rattle.records.proofs.Readers.{Any, not_done, same_value, same_input, T_of, reads_whole}
-use Rattle.records.specs.Records.{mark_width, byte, loc_width, raw_width, integer_field, Sexp, SN, SC, SI, SQ, SA, sexp_bytes, record_bytes, Kind, Assign, kind_field, Name, Complex, pattern_field, Body, BL, BQ, BV, BC, BM, BF, body_bytes, bodies_bytes, tail_bytes, no_tail, tail, Binding, BB, binding_bytes, bindings_bytes, Helper, HC, HM, HD, HN, HR, helper_bytes, helpers_bytes, Form, CF, form_bytes, to_bodies, to_bindings, to_helpers, bodies_count, bindings_count, helpers_count}
+use Rattle.records.specs.Records.{mark_width, byte, loc_width, raw_width, integer_field, Sexp, SN, SC, SI, SQ, SA, sexp_bytes, record_bytes, kind_field, Name, Complex, pattern_field, Body, BL, BQ, BV, BC, BM, BF, body_bytes, bodies_bytes, tail_bytes, no_tail, tail, Binding, BB, binding_bytes, bindings_bytes, Helper, HC, HM, HD, HN, HR, helper_bytes, helpers_bytes, Form, CF, form_bytes, to_bodies, to_bindings, to_helpers, bodies_count, bindings_count, helpers_count}
+use Rattle.records.specs.declared.Kind.{Kind}
+use Rattle.records.specs.declared.Kind.TheVariants.{Assign}
 use Rattle.records.specs.Read.{Zone, Context, sexp_rule, cons_rule, sexp_at, sexp, note, Readers, kind_of, more_levels, in_bindings, pattern_after, pattern_of, binding, let_of, tail_after, call_tail, body_rule, helper_rule, form_rule, rules, readers, assign_of, whole, read_whole}
 use Rattle.records.specs.ReadFields.{Input, Fault, malformed, over_limit, Read, done, refused, Reader, ◌>>=◌, ret, refuse, check, times, deeper, in_lambda, in_zone, next, bytes, choose, marked, loc, counted, name, raw_field, integer, at_most, up_to, with_loc, optional_loc, keyword, hint, count, shortest, ◌>>◌}
 

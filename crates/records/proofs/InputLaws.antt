@@ -2,16 +2,16 @@
 use mathlib.Core.Path.{◌≡◌, refl, ap, sym, ◌∙◌}
 use mathlib.Core.Bool.{Bool, true, false, ◌&&◌}
 use mathlib.Core.List.{[], ◌∷◌}
-use Rattle.std.specs.Prelude.{None, Some, Result, Ok, Err, IsErrAnd}
-use Rattle.std.proofs.lemmas.Result.{err_from_is_err_and}
+use Rattle.std.specs.Prelude.{Option, None, Some, Result, Ok, Err, IsErrAnd}
+use Rattle.std.specs.Borrow.{Bor}
 use Prim.Native.Nat.{ℕ, ◌+◌, ◌*◌, ◌≤◌, ◌<◌}
 use native.Mathlib.Omega.{arith}
 use lib.Dec.{leb}
-use lib.ListN.{length, drop, length-drop}
+use lib.ListN.{length, length-drop}
 use borrow.Author.Tests.{le-leb, lt-leb}
 use Rattle.names.specs.Names.{Bytes}
 use Rattle.names.specs.Refusals.{place_at, refusing, placeless}
-use Rattle.names.specs.declared.Place.{Place}
+use Rattle.names.specs.declared.Reason.TheVariants.{OutOfRange, NotOneRecord, PastLimit, ModInBinding}
 use Rattle.names.specs.declared.Refusal.{Refusal}
 use Rattle.names.specs.CallAnswer.{max_counter}
 use Rattle.records.specs.declared.Wanted.{Wanted}
@@ -19,13 +19,13 @@ use Rattle.records.specs.declared.Wanted.TheVariants.{Form as a_whole_form, Help
 use Rattle.records.specs.declared.Scan.{Scan}
 use Rattle.records.specs.Limits.{level_limit, least_longest, most_longest, work_factor}
 use Rattle.records.specs.Records.{body_bytes, helper_bytes, form_bytes}
-use Rattle.records.specs.Opened.{Opened, opened, closed, limits, no_mod, any_mod, open_by}
-use Rattle.records.specs.Read.{whole, unread, left_over, outermost, from_first, read_whole}
-use Rattle.records.specs.ReadFields.{Read, done, refused, Fault, malformed, fault_number, Reader}
-use Rattle.records.specs.Scan.{scan_of, input_at, first_scan, judged_by, opening_of, wanted_reader, Comes}
+use Rattle.records.specs.Opened.{Opened, opened, closed, limits, no_mod, any_mod, open_by, read_input, open_input}
+use Rattle.records.specs.Read.{Whole, whole, unread, left_over, outermost, from_first, read_whole}
+use Rattle.records.specs.ReadFields.{Input, Read, done, refused, fault_reason, Reader}
+use Rattle.records.specs.Scan.{left_by, input_at, starts, first_of, kept_of, opening_of, wanted_reader, Comes}
 use Rattle.records.proofs.Readers.{Any}
 use Rattle.records.proofs.Exact.{Exact, exact_readers, exact_assign_of}
-use Rattle.records.proofs.Scans.{Took, took}
+use Rattle.records.proofs.Scans.{left, same_err, same_length, Took, took}
 
 -- F, work memory and counter, one test after the other
 module _ (F work c : ℕ) where
@@ -53,80 +53,113 @@ module _ (F work c : ℕ) where
   unfolding limits
   limits_counter a b d = rw (le-leb least_longest F a, le-leb F most_longest b, le-leb (work_factor * F) work d)
 
--- a reading with a fault is refused either way
-judged_unread : {A : Type 0} (mods : Bool) (n : Fault) (p : Place) → judged_by {A = A} mods (unread n p) ≡ closed (refusing (fault_number n) p)
-unfolding judged_by no_mod any_mod
-judged_unread true n p = refl
-judged_unread false n p = refl
-
-module _ {A : Type 0} (mods : Bool) (m : Reader A) (F work c : ℕ) (input : Bytes) where
-  pub open_limits : {e : Refusal} → false ≡ limits F work c → e ≡ placeless 1 → Err e ≡ opening_of (open_by (judged_by mods) m F work c input)
+-- a whole input, judged by its first BM alone
+module _ {A : Type 0} (m : Reader A) (F work c : ℕ) (input : Bytes) where
+  pub open_limits : {e : Refusal} → false ≡ limits F work c → e ≡ placeless OutOfRange → Err e ≡ kept_of (open_by first_of m F work c input)
   unfolding open_by
   open_limits h z = rw (z, ← h, open_by) refl
 
-  pub open_long : {e : Refusal} → true ≡ limits F work c → F < length input → e ≡ placeless 3 → Err e ≡ opening_of (open_by (judged_by mods) m F work c input)
+  pub open_long : {e : Refusal} → true ≡ limits F work c → F < length input → e ≡ placeless PastLimit → Err e ≡ kept_of (open_by first_of m F work c input)
   unfolding open_by
   open_long h l z = rw (z, ← h, lt-leb (length input) F l, open_by) refl
 
-  module _ (h : true ≡ limits F work c) (l : length input ≤ F) where
-    read_it : open_by (judged_by mods) m F work c input ≡ judged_by mods (read_whole m input)
-    unfolding open_by
-    read_it = rw (← h, le-leb (length input) F l, open_by)
+-- an input s within its limits
+module _ {A : Type 0} (m : Reader A) (F work c : ℕ) (s : Bor Bytes) (h : true ≡ limits F work c) (l : length s.now ≤ F) where
+  read_it : open_by first_of m F work c s.now ≡ first_of (read_whole m s.now)
+  unfolding open_by
+  read_it = rw (← h, le-leb (length s.now) F l, open_by)
 
-    pub open_refused : {e : Refusal} {r : Result (Unit {0}) Refusal} → Comes m outermost input first_scan (Err e) → IsErrAnd r (λ y. y ≡ e) → r ≡ opening_of (open_by (judged_by mods) m F work c input)
-    unfolding scan_of input_at read_whole
-    open_refused {e} {r} g z = let p = err_from_is_err_and r z in p.1 ∙ ap Err p.2 ∙ go (m outermost (from_first input)) refl g.there
+  pub open_refused : {e : Refusal} {r : Result (Option ℕ) Refusal} → Comes m outermost (starts s None) (Err e) → IsErrAnd r (λ y. y ≡ e) → r ≡ kept_of (open_by first_of m F work c s.now)
+  unfolding left_by input_at read_whole first_of
+  open_refused {e} g z = same_err z ∙ go (m outermost (from_first s.now)) refl g.there
+    where
+      go : (o : Read A) → m outermost (from_first s.now) ≡ o → ◌≡◌ {A = Result Input Refusal} (Err e) (left_by o) → Err e ≡ kept_of (open_by first_of m F work c s.now)
+      go (done a i) q w = absurd (let z : ◌≡◌ {A = ℕ} 0 1 = cc in omega arith)
+      go (refused n p) q w =
+          let unread_there : read_whole m s.now ≡ unread n p = rw (q, read_whole) in
+          let same : e ≡ refusing (fault_reason n) p = cc in
+          ap Err same ∙ sym (ap kept_of (read_it ∙ ap first_of unread_there))
+
+  module _ {P : A → Type 0} {f : A → Bytes} {d : Scan} (e : Exact P f [] m) (g : Comes m outermost (starts s None) (Ok d)) where
+    -- what is left over decides
+    read_as : (t : Took P f m outermost (starts s None) d) → open_by first_of m F work c s.now ≡ first_of (left_over t.value (input_at 0 d))
+    unfolding read_whole input_at
+    read_as t = rw (read_it, t.ran, read_whole) refl
+
+    bytes_left : length s.now ≡ d.at + length (left d)
+    bytes_left = omega (arith, length-drop d.at d.s.now, d.in_bounds, same_length g.same)
+
+    pub open_left : {e : Refusal} → d.at < length s.now → e ≡ refusing NotOneRecord (place_at d.at) → Err e ≡ kept_of (open_by first_of m F work c s.now)
+    unfolding left_over fault_reason input_at first_of
+    open_left b z = let t = took e g in ap Err z ∙ sym (ap kept_of (read_as t ∙ over t.value (left d) refl))
       where
-        go : (o : Read A) → m outermost (from_first input) ≡ o → ◌≡◌ {A = Result Scan Refusal} (Err e) (scan_of 0 o) → Err e ≡ opening_of (open_by (judged_by mods) m F work c input)
-        go (done a i) q w = absurd (let z : ◌≡◌ {A = ℕ} 0 1 = cc in omega arith)
-        go (refused n p) q w =
-            let unread_there : read_whole m input ≡ unread n p = rw (q, read_whole) in
-            let same : e ≡ refusing (fault_number n) p = cc in
-            ap Err same ∙ sym (ap opening_of (read_it ∙ ap (judged_by mods) unread_there ∙ judged_unread mods n p))
+        over : (a : A) (k : Bytes) → left d ≡ k → first_of (left_over a (input_at 0 d)) ≡ closed (refusing NotOneRecord (place_at d.at))
+        over a [] q = absurd (omega (arith, ap length q, bytes_left))
+        over a (x ∷ xs) q = let n : 0 + d.at ≡ d.at = omega arith in rw (q, left_over) (ap (λ (k : ℕ). closed (refusing NotOneRecord (place_at k))) n)
 
-    module _ {P : A → Type 0} {f : A → Bytes} {d : Scan} (e : Exact P f [] m) (g : Comes m outermost input first_scan (Ok d)) where
-      read_as : (t : Took P f m outermost input first_scan d) → open_by (judged_by mods) m F work c input ≡ judged_by mods (left_over t.value (input_at 0 input d))
-      unfolding read_whole input_at
-      read_as t = rw (read_it, t.ran, read_whole) refl
+    pub open_read : length s.now ≤ d.at → Ok d.first ≡ kept_of (open_by first_of m F work c s.now)
+    unfolding left_over input_at first_of
+    open_read b = let t = took e g in sym (ap kept_of (read_as t ∙ over t.value (left d) refl))
+      where
+        over : (a : A) (k : Bytes) → left d ≡ k → first_of (left_over a (input_at 0 d)) ≡ opened d.first
+        over a [] q = rw (q, left_over) refl
+        over a (x ∷ xs) q = absurd (omega (arith, ap length q, bytes_left))
 
-      pub open_left : {e : Refusal} → d.at < length input → e ≡ refusing 2 (place_at d.at) → Err e ≡ opening_of (open_by (judged_by mods) m F work c input)
-      unfolding left_over fault_number input_at
-      open_left b z = let t = took e (omega arith) g in ap Err z ∙ sym (ap opening_of (read_as t ∙ left t.value (drop d.at input) refl))
-        where
-          left : (a : A) (k : Bytes) → drop d.at input ≡ k → judged_by mods (left_over a (input_at 0 input d)) ≡ closed (refusing 2 (place_at d.at))
-          left a [] q = absurd (omega (arith, ap length q, length-drop d.at input))
-          left a (x ∷ xs) q = let n : 0 + d.at ≡ d.at = omega arith in rw (q, left_over) (judged_unread mods malformed _ ∙ ap (λ (k : ℕ). closed (refusing 2 (place_at k))) n)
+-- the code's answer from the first BM, where a BM may stand anywhere, and where it may not stand in a binding body of an assign
+abbrev pub from_any : Result (Option ℕ) Refusal → Result (Unit {0}) Refusal
+from_any (Ok o) = Ok tt
+from_any (Err e) = Err e
 
-      -- nothing is left over
-      all_read : length input ≤ d.at → (a : A) × (open_by (judged_by mods) m F work c input ≡ judged_by mods (whole a d.first))
-      unfolding left_over input_at
-      all_read b = let t = took e (omega arith) g in (t.value, read_as t ∙ ap (judged_by mods) (left t.value (drop d.at input) refl))
-        where
-          left : (a : A) (k : Bytes) → drop d.at input ≡ k → left_over a (input_at 0 input d) ≡ whole a d.first
-          left a [] q = rw (q, left_over)
-          left a (x ∷ xs) q = absurd (omega (arith, ap length q, length-drop d.at input))
+abbrev pub from_first_mod : Result (Option ℕ) Refusal → Result (Unit {0}) Refusal
+from_first_mod (Ok None) = Ok tt
+from_first_mod (Ok (Some p)) = Err (refusing ModInBinding (place_at p))
+from_first_mod (Err e) = Err e
 
-      pub open_any : length input ≤ d.at → mods ≡ true → Ok tt ≡ opening_of (open_by (judged_by mods) m F work c input)
-      unfolding judged_by any_mod
-      open_any b q = let w = all_read b in rw (w.1, q, any_mod) refl
+-- a call's answer, from that of the first BM
+module _ {A : Type 0} (m : Reader A) (F work c : ℕ) (input : Bytes) where
+  opening_by : (by : Whole A → Opened A) (g : Result (Option ℕ) Refusal → Result (Unit {0}) Refusal) → ((e : Refusal) → g (Err e) ≡ Err e) → ((w : Whole A) → g (kept_of (first_of w)) ≡ opening_of (by w))
+      → g (kept_of (open_by first_of m F work c input)) ≡ opening_of (open_by by m F work c input)
+  unfolding open_by
+  opening_by by g one all = by_limits (limits F work c)
+    where
+      by_length : (b : Bool) → g (kept_of (elim b as (λ _. Opened (Option ℕ)) [ false ↦ closed (placeless PastLimit) | true ↦ first_of (read_whole m input) ]))
+          ≡ opening_of (elim b as (λ _. Opened A) [ false ↦ closed (placeless PastLimit) | true ↦ by (read_whole m input) ])
+      by_length true = all (read_whole m input)
+      by_length false = one (placeless PastLimit)
 
-      pub open_mod : {p : ℕ} {e : Refusal} → length input ≤ d.at → mods ≡ false → d.first ≡ Some p → e ≡ refusing 4 (place_at p) → Err e ≡ opening_of (open_by (judged_by mods) m F work c input)
-      unfolding judged_by no_mod
-      open_mod b q y z = let w = all_read b in rw (w.1, q, y, z, no_mod) refl
+      by_limits : (b : Bool) → g (kept_of (elim b as (λ _. Opened (Option ℕ)) [
+        | false ↦ closed (placeless OutOfRange)
+        | true ↦ elim (leb (length input) F) [ false ↦ closed (placeless PastLimit) | true ↦ first_of (read_whole m input) ]
+      ]))
+          ≡ opening_of (elim b as (λ _. Opened A) [
+            | false ↦ closed (placeless OutOfRange)
+            | true ↦ elim (leb (length input) F) [ false ↦ closed (placeless PastLimit) | true ↦ by (read_whole m input) ]
+          ])
+      by_limits true = by_length (leb (length input) F)
+      by_limits false = one (placeless OutOfRange)
 
-      pub open_accepted : length input ≤ d.at → mods ≡ false → d.first ≡ None → Ok tt ≡ opening_of (open_by (judged_by mods) m F work c input)
-      unfolding judged_by no_mod
-      open_accepted b q y = let w = all_read b in rw (w.1, q, y, no_mod) refl
+  pub opening_any : from_any (kept_of (open_by first_of m F work c input)) ≡ opening_of (read_input m F work c input)
+  unfolding any_mod first_of
+  opening_any = opening_by any_mod from_any (λ e. refl) by_whole
+    where
+      by_whole : (w : Whole A) → from_any (kept_of (first_of w)) ≡ opening_of (any_mod w)
+      by_whole (whole a o) = refl
+      by_whole (unread f p) = refl
 
--- the answer says whether an input is opened or refused
+  pub opening_no_mod : from_first_mod (kept_of (open_by first_of m F work c input)) ≡ opening_of (open_input m F work c input)
+  unfolding no_mod first_of
+  opening_no_mod = opening_by no_mod from_first_mod (λ e. refl) by_whole
+    where
+      by_whole : (w : Whole A) → from_first_mod (kept_of (first_of w)) ≡ opening_of (no_mod w)
+      by_whole (whole a None) = refl
+      by_whole (whole a (Some p)) = refl
+      by_whole (unread f p) = refl
+
+-- the answer says that an input is opened
 module _ {A : Type 0} where
   pub is_opened : (o : Opened A) → opening_of o ≡ Ok tt → (a : A) × (o ≡ opened a)
   is_opened (opened a) e = (a, refl)
   is_opened (closed r) e = let no : ◌≡◌ {A = ℕ} 0 1 = cc in absurd (omega (arith, no))
-
-  pub is_closed : (o : Opened A) (r : Refusal) → opening_of o ≡ Err r → o ≡ closed r
-  is_closed (opened a) r e = let no : ◌≡◌ {A = ℕ} 0 1 = cc in absurd (omega (arith, no))
-  is_closed (closed q) r e = let same : q ≡ r = cc in ap closed same
 
 -- the reader that a call wants
 pub wanted_bytes : (w : Wanted) → (wanted_reader w).0 → Bytes

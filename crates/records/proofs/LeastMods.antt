@@ -9,7 +9,9 @@ use lib.ListN.{length}
 use Rattle.names.specs.Names.{Bytes}
 use Rattle.records.specs.Mods.{Node, body_node, bodies_node, tail_node, binding_node, bindings_node, helper_node, helpers_node, form_node, node_bytes, Span, text, sub, span_bytes, spans, OneOf, first_span, next_span, Inside, itself, further_in, AnyNode, NotMod, AnyMod, AssignMod, in_assign}
 use Rattle.records.specs.Read.{Zone, Plain, InBinding, InMod, noted, binding_zone}
-use Rattle.records.specs.Records.{Loc, Kind, Parallel, Sequential, Assign, Body, BL, BQ, BV, BC, BM, BF, Bodies, []ᵇ, ◌∷ᵇ◌, Tail, no_tail, tail, Binding, BB, Bindings, []ᵍ, ◌∷ᵍ◌, Helper, HC, HM, HD, HN, HR, Helpers, []ʰ, ◌∷ʰ◌, Form, CF}
+use Rattle.records.specs.Records.{Loc, Body, BL, BQ, BV, BC, BM, BF, Bodies, []ᵇ, ◌∷ᵇ◌, Tail, no_tail, tail, Binding, BB, Bindings, []ᵍ, ◌∷ᵍ◌, Helper, HC, HM, HD, HN, HR, Helpers, []ʰ, ◌∷ʰ◌, Form, CF}
+use Rattle.records.specs.declared.Kind.{Kind}
+use Rattle.records.specs.declared.Kind.TheVariants.{Parallel, Sequential, Assign}
 use Rattle.records.proofs.FirstMods.{earlier, behind, first_in, body_first, bodies_first, tail_first, binding_first, bindings_first, helper_first, helpers_first, form_first}
 use Rattle.records.proofs.Spans.{inside_there}
 

@@ -4,14 +4,15 @@ use mathlib.Core.List.{List, flatten}
 use Prim.Native.Nat.{ℕ, zero, suc, ◌≤◌}
 use Prim.Native.String.{String}
 use native.Mathlib.Omega.{arith}
-use lib.ListN.{length, take, drop, length-append}
+use lib.ListN.{length, take, length-append}
 use Rattle.names.specs.Names.{Bytes, ascii, same}
 use Rattle.names.specs.Segments.{At}
 use Rattle.names.proofs.Places.{at_left}
 use Rattle.records.specs.declared.Family.{Family}
 use Rattle.records.specs.declared.Family.TheVariants.{Body as a_Body, Binding as a_binding, Helper as a_helper, Form as a_form}
 use Rattle.records.specs.Parts.{family_part}
-use Rattle.records.specs.Records.{mark_width, record_bytes, Loc, Kind, Sexp, Body, BL, BQ, BV, BC, BM, BF, body_bytes, Bodies, Tail, BB, binding_bytes, Bindings, Helper, HC, HM, HD, HN, HR, helper_bytes, Helpers, Form, CF, form_bytes}
+use Rattle.records.specs.Records.{mark_width, record_bytes, Loc, Sexp, Body, BL, BQ, BV, BC, BM, BF, body_bytes, Bodies, Tail, BB, binding_bytes, Bindings, Helper, HC, HM, HD, HN, HR, helper_bytes, Helpers, Form, CF, form_bytes}
+use Rattle.records.specs.declared.Kind.{Kind}
 use Rattle.records.specs.Scan.{mark_index, body_marks, helper_marks}
 
 -- a record is no shorter than its mark
@@ -37,11 +38,11 @@ family_long a_form (CF l r a hs b) = long "CF" _ refl
 
 -- the mark that s starts with
 module _ {s : Bytes} (m : String) (fs : List Bytes) (ms : List String) (k : ℕ) where
-  mark_there : length (ascii m) ≡ mark_width → mark_index (ascii m) ms ≡ k → At s 0 (record_bytes m fs) → mark_index (take mark_width (drop 0 s)) ms ≡ k
+  mark_there : length (ascii m) ≡ mark_width → mark_index (ascii m) ms ≡ k → At s 0 (record_bytes m fs) → mark_index (take mark_width s) ms ≡ k
   unfolding record_bytes
   mark_there q e a =
       let w = (at_left (ascii m) (flatten fs) a).there in
-      let x : take mark_width (drop 0 s) ≡ ascii m = rw q at w in
+      let x : take mark_width s ≡ ascii m = rw q at w in
       ap (λ (y : Bytes). mark_index y ms) x ∙ e
 
 -- P of every B record whose mark has that place among the marks; the same for the H records
@@ -54,7 +55,7 @@ BodyOf (suc (suc (suc (suc zero)))) P = (l : Loc) (f : Form) → P (BM l f)
 BodyOf (suc (suc (suc (suc (suc zero))))) P = (l : Loc) (w : Bytes) (ca : Sexp) (c : Body) (a : Sexp) (b : Body) → P (BF l w ca c a b)
 BodyOf (suc (suc (suc (suc (suc (suc k)))))) P = Unit {0}
 
-pub body_by_mark : {s : Bytes} {k : ℕ} (P : Body → Type 0) → k ≡ mark_index (take mark_width (drop 0 s)) body_marks → BodyOf k P → (t : Body) → At s 0 (body_bytes t) → P t
+pub body_by_mark : {s : Bytes} {k : ℕ} (P : Body → Type 0) → k ≡ mark_index (take mark_width s) body_marks → BodyOf k P → (t : Body) → At s 0 (body_bytes t) → P t
 unfolding BodyOf body_bytes ascii mark_index same
 body_by_mark P q f (BL k l w h bs b) e = subst (λ (j : ℕ). BodyOf j P) (q ∙ mark_there "BL" _ body_marks 0 refl refl e) f k l w h bs b
 body_by_mark P q f (BQ x) e = subst (λ (j : ℕ). BodyOf j P) (q ∙ mark_there "BQ" _ body_marks 1 refl refl e) f x
@@ -71,7 +72,7 @@ HelperOf (suc (suc (suc zero))) P = (l : Loc) (n r : Bytes) (hs : Helpers) → P
 HelperOf (suc (suc (suc (suc zero)))) P = (l : Loc) (n r : Bytes) → P (HR l n r)
 HelperOf (suc (suc (suc (suc (suc k))))) P = Unit {0}
 
-pub helper_by_mark : {s : Bytes} {k : ℕ} (P : Helper → Type 0) → k ≡ mark_index (take mark_width (drop 0 s)) helper_marks → HelperOf k P → (t : Helper) → At s 0 (helper_bytes t) → P t
+pub helper_by_mark : {s : Bytes} {k : ℕ} (P : Helper → Type 0) → k ≡ mark_index (take mark_width s) helper_marks → HelperOf k P → (t : Helper) → At s 0 (helper_bytes t) → P t
 unfolding HelperOf helper_bytes ascii mark_index same
 helper_by_mark P q f (HC l n r b) e = subst (λ (j : ℕ). HelperOf j P) (q ∙ mark_there "HC" _ helper_marks 0 refl refl e) f l n r b
 helper_by_mark P q f (HM l n r a c) e = subst (λ (j : ℕ). HelperOf j P) (q ∙ mark_there "HM" _ helper_marks 1 refl refl e) f l n r a c

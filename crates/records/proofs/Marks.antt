@@ -11,7 +11,7 @@ use Rattle.records.specs.declared.BodyMark.{BodyMark}
 use Rattle.records.specs.declared.BodyMark.TheVariants.{Let, Quoted, Value, Call, Mod, Lambda}
 use Rattle.records.specs.declared.HelperMark.{HelperMark}
 use Rattle.records.specs.declared.HelperMark.TheVariants.{Constant, Macro, Function, Namespace, Reference}
-use Rattle.records.specs.Scan.{mark_index, sexp_marks, sexp_mark_at, body_marks, body_mark_at, helper_marks, helper_mark_at}
+use Rattle.records.specs.Scan.{mark_index, sexp_marks, sexp_mark_at, sexp_mark_of, body_marks, body_mark_at, body_mark_of, helper_marks, helper_mark_at, helper_mark_of}
 use Rattle.records.proofs.RecordLaws.{index_bound}
 
 -- the place of each mark
@@ -73,7 +73,7 @@ helper_placed {m} {n} {k} q e = at k e
     at (suc (suc (suc (suc (suc k))))) e = cc
 
 -- where none does, the place is past the table
-pub no_sexp : (x : Bytes) → None ≡ sexp_mark_at (mark_index x sexp_marks) → 5 ≡ mark_index x sexp_marks
+pub no_sexp : (x : Bytes) → None ≡ sexp_mark_of x → 5 ≡ mark_index x sexp_marks
 no_sexp x e = omega (arith, index_bound x sexp_marks, past (mark_index x sexp_marks) e)
   where
     past : (k : ℕ) → None ≡ sexp_mark_at k → 5 ≤ k
@@ -84,7 +84,7 @@ no_sexp x e = omega (arith, index_bound x sexp_marks, past (mark_index x sexp_ma
     past (suc (suc (suc (suc zero)))) q = cc
     past (suc (suc (suc (suc (suc k))))) q = omega arith
 
-pub no_body : (x : Bytes) → None ≡ body_mark_at (mark_index x body_marks) → 6 ≡ mark_index x body_marks
+pub no_body : (x : Bytes) → None ≡ body_mark_of x → 6 ≡ mark_index x body_marks
 no_body x e = omega (arith, index_bound x body_marks, past (mark_index x body_marks) e)
   where
     past : (k : ℕ) → None ≡ body_mark_at k → 6 ≤ k
@@ -96,7 +96,7 @@ no_body x e = omega (arith, index_bound x body_marks, past (mark_index x body_ma
     past (suc (suc (suc (suc (suc zero))))) q = cc
     past (suc (suc (suc (suc (suc (suc k)))))) q = omega arith
 
-pub no_helper : (x : Bytes) → None ≡ helper_mark_at (mark_index x helper_marks) → 5 ≡ mark_index x helper_marks
+pub no_helper : (x : Bytes) → None ≡ helper_mark_of x → 5 ≡ mark_index x helper_marks
 no_helper x e = omega (arith, index_bound x helper_marks, past (mark_index x helper_marks) e)
   where
     past : (k : ℕ) → None ≡ helper_mark_at k → 5 ≤ k

@@ -9,6 +9,7 @@ use lib.Dec.{leb, le→leb}
 use lib.ListN.{length}
 use Rattle.names.specs.Names.{Bytes, ascii}
 use Rattle.names.specs.Refusals.{place_at, refusing}
+use Rattle.names.specs.declared.Reason.TheVariants.{ModInBinding}
 use Rattle.names.specs.Segments.{At}
 use Rattle.names.specs.declared.Place.{Place}
 use Rattle.names.proofs.Places.{at_left}
@@ -65,11 +66,11 @@ module _ {A : Type 0} {m : Reader A} {f : A → Bytes} {Valid Clear : A → Type
 
     -- refused with 4 at p exactly if the first such BM of the tree stands at p
     pub mod_refused : AreBytes input → (p : ℕ)
-        → (open_input m F work c input ≡ closed (refusing 4 (place_at p))) ↔ ((t : A) × GivenTree f Valid F work c input t × FirstMod (node t) p)
+        → (open_input m F work c input ≡ closed (refusing ModInBinding (place_at p))) ↔ ((t : A) × GivenTree f Valid F work c input t × FirstMod (node t) p)
     unfolding no_mod
     mod_refused b p = (to, λ (t, g, h). opened_as g (least_some (s.first t) p (first_least t) h.there h.least))
       where
-        to : open_input m F work c input ≡ closed (refusing 4 (place_at p)) → (t : A) × GivenTree f Valid F work c input t × FirstMod (node t) p
+        to : open_input m F work c input ≡ closed (refusing ModInBinding (place_at p)) → (t : A) × GivenTree f Valid F work c input t × FirstMod (node t) p
         to e =
             let (t, q, g, w) = (rw e at (through m F work c input)).2 refl in
             let d : p ≡ q = ap (λ (x : Place). x.start) w in
@@ -90,19 +91,19 @@ module _ {A : Type 0} {m : Reader A} {f : A → Bytes} {Valid Clear : A → Type
 -- of compile forms, helpers and assigns
 module _ (F work c : ℕ) (input : Bytes) (b : AreBytes input) where
   pub form_mod_refused : (p : ℕ)
-      → (open_input (readers level_limit).form F work c input ≡ closed (refusing 4 (place_at p)))
+      → (open_input (readers level_limit).form F work c input ≡ closed (refusing ModInBinding (place_at p)))
       ↔ ((t : Form) × GivenTree form_bytes ValidForm F work c input t × FirstMod (form_node t) p)
   unfolding form_format
   form_mod_refused = mod_refused form_format form_node (form_least Plain) F work c input b
 
   pub helper_mod_refused : (p : ℕ)
-      → (open_input (readers level_limit).helper F work c input ≡ closed (refusing 4 (place_at p)))
+      → (open_input (readers level_limit).helper F work c input ≡ closed (refusing ModInBinding (place_at p)))
       ↔ ((t : Helper) × GivenTree helper_bytes ValidHelper F work c input t × FirstMod (helper_node t) p)
   unfolding helper_format
   helper_mod_refused = mod_refused helper_format helper_node (helper_least Plain) F work c input b
 
   pub assign_mod_refused : (p : ℕ)
-      → (open_input assign_of F work c input ≡ closed (refusing 4 (place_at p)))
+      → (open_input assign_of F work c input ≡ closed (refusing ModInBinding (place_at p)))
       ↔ ((t : Body) × GivenTree body_bytes ValidAssign F work c input t × FirstMod (body_node t) p)
   unfolding assign_format
   assign_mod_refused = mod_refused assign_format body_node (body_least Plain) F work c input b

@@ -8,7 +8,9 @@ use native.Mathlib.Omega.{arith}
 use lib.Dec.{T, leb, leb→le}
 use lib.ListN.{length}
 use Rattle.names.specs.Names.{Bytes}
-use Rattle.names.specs.Refusals.{place_at, no_place, refusing, placeless}
+use Rattle.names.specs.Refusals.{place_at, no_place, refusing, placeless, reason_number}
+use Rattle.names.specs.declared.Reason.{Reason}
+use Rattle.names.specs.declared.Reason.TheVariants.{OutOfRange, NotOneRecord, PastLimit}
 use Rattle.names.specs.declared.Place.{Place}
 use Rattle.names.specs.CallAnswer.{max_counter}
 use Rattle.names.proofs.Same.{T-left, T-right}
@@ -16,7 +18,7 @@ use Rattle.records.specs.Opened.{Opened, opened, closed, limits, no_mod, any_mod
 use Rattle.records.proofs.Readers.{T_of}
 use Rattle.records.specs.Limits.{least_longest, most_longest, work_factor}
 use Rattle.records.specs.Read.{Whole, whole, unread, read_whole}
-use Rattle.records.specs.ReadFields.{Reader, malformed, over_limit, fault_number}
+use Rattle.records.specs.ReadFields.{Reader, malformed, over_limit, fault_reason}
 
 -- the limits hold, and the input is read whole
 pub record OpenedFrom {A : Type 0} (reader : Reader A) (F c : ℕ) (input : Bytes) (a : A) : Type 0 where
@@ -52,20 +54,20 @@ module _ {A : Type 0} (reader : Reader A) (F work c : ℕ) (input : Bytes) where
     pub read : read_whole reader input ≡ whole a x
 
   -- an input is refused with 1 or 3 before reading, or its reading is judged
-  by_open : (X : Opened A → Type 0) (judged : Whole A → Opened A) → X (closed (placeless 1)) → X (closed (placeless 3))
+  by_open : (X : Opened A → Type 0) (judged : Whole A → Opened A) → X (closed (placeless OutOfRange)) → X (closed (placeless PastLimit))
       → (limits F work c ≡ true → length input ≤ F → X (judged (read_whole reader input))) → X (open_by judged reader F work c input)
   unfolding open_by
   by_open X judged one three read = by_limits (limits F work c) refl
     where
       by_length : limits F work c ≡ true → (b : Bool) → leb (length input) F ≡ b
-          → X (elim b as (λ _. Opened A) [ false ↦ closed (placeless 3) | true ↦ judged (read_whole reader input) ])
+          → X (elim b as (λ _. Opened A) [ false ↦ closed (placeless PastLimit) | true ↦ judged (read_whole reader input) ])
       by_length l true e = read l (leb→le (length input) F (T_of e))
       by_length l false e = three
 
       by_limits : (b : Bool) → limits F work c ≡ b
           → X (elim b as (λ _. Opened A) [
-            | false ↦ closed (placeless 1)
-            | true ↦ elim (leb (length input) F) [ false ↦ closed (placeless 3) | true ↦ judged (read_whole reader input) ]
+            | false ↦ closed (placeless OutOfRange)
+            | true ↦ elim (leb (length input) F) [ false ↦ closed (placeless PastLimit) | true ↦ judged (read_whole reader input) ]
           ])
       by_limits true e = by_length e (leb (length input) F) refl
       by_limits false e = one
@@ -73,10 +75,10 @@ module _ {A : Type 0} (reader : Reader A) (F work c : ℕ) (input : Bytes) where
   -- what an input that is read has passed, wherever a BM stands
   abbrev pub ReadThrough : Opened A → Type 0
   ReadThrough (opened a) = (x : Option ℕ) × ReadAs a x
-  ReadThrough (closed r) = (1 ≤ r.number) × (r.number ≤ 3)
+  ReadThrough (closed r) = (1 ≤ reason_number r.reason) × (reason_number r.reason ≤ 3)
 
   pub read_through : ReadThrough (read_input reader F work c input)
-  unfolding any_mod fault_number
+  unfolding any_mod fault_reason
   read_through = by_open ReadThrough any_mod (omega arith, omega arith) (omega arith, omega arith) (λ l k. judged l k (read_whole reader input) refl)
     where
       judged : limits F work c ≡ true → length input ≤ F → (w : Whole A) → read_whole reader input ≡ w → ReadThrough (any_mod w)
@@ -87,27 +89,27 @@ module _ {A : Type 0} (reader : Reader A) (F work c : ℕ) (input : Bytes) where
   -- what an input that is opened has passed, and one that is refused with 4
   abbrev pub Through : Opened A → Type 0
   Through (opened a) = ReadAs a None
-  Through (closed r) = (1 ≤ r.number) × (r.number ≤ 4) × (r.number ≡ 4 → (a : A) × (p : ℕ) × ReadAs a (Some p) × (r.place ≡ place_at p))
+  Through (closed r) = (1 ≤ reason_number r.reason) × (reason_number r.reason ≤ 4) × (reason_number r.reason ≡ 4 → (a : A) × (p : ℕ) × ReadAs a (Some p) × (r.place ≡ place_at p))
 
   -- a refusal by another number
-  by_other : (n : ℕ) (p : Place) → 1 ≤ n → n < 4 → Through (closed (refusing n p))
+  by_other : (n : Reason) (p : Place) → 1 ≤ reason_number n → reason_number n < 4 → Through (closed (refusing n p))
   by_other n p l h = (l, omega arith, λ e. absurd (omega arith))
 
   by_read : limits F work c ≡ true → length input ≤ F → (w : Whole A) → read_whole reader input ≡ w → Through (no_mod w)
-  unfolding no_mod fault_number
+  unfolding no_mod fault_reason
   by_read l k (whole a None) e = record { within = l; size = k; read = e }
   by_read l k (whole a (Some p)) e = (omega arith, omega arith, λ _. (a, p, record { within = l; size = k; read = e }, refl))
-  by_read l k (unread malformed p) e = by_other 2 p (omega arith) (omega arith)
-  by_read l k (unread over_limit p) e = by_other 3 p (omega arith) (omega arith)
+  by_read l k (unread malformed p) e = by_other NotOneRecord p (omega arith) (omega arith)
+  by_read l k (unread over_limit p) e = by_other PastLimit p (omega arith) (omega arith)
 
   pub through : Through (open_input reader F work c input)
   through =
-      by_open Through no_mod (by_other 1 no_place (omega arith) (omega arith)) (by_other 3 no_place (omega arith) (omega arith)) (λ l k. by_read l k (read_whole reader input) refl)
+      by_open Through no_mod (by_other OutOfRange no_place (omega arith) (omega arith)) (by_other PastLimit no_place (omega arith) (omega arith)) (λ l k. by_read l k (read_whole reader input) refl)
 
   -- what is known before any work
   abbrev pub Start : Opened A → Type 0
   Start (opened a) = OpenedFrom reader F c input a
-  Start (closed r) = (1 ≤ r.number) × (r.number ≤ 4)
+  Start (closed r) = (1 ≤ reason_number r.reason) × (reason_number r.reason ≤ 4)
 
   pub start : Start (open_input reader F work c input)
   start = go (open_input reader F work c input) through

@@ -12,7 +12,9 @@ use lib.Dec.{leb, le→leb}
 use lib.ListN.{length, length-append}
 use Rattle.names.specs.Names.{Bytes, ascii, same, number_field, number_of, number_after, name_width, name_field}
 use Rattle.records.specs.Limits.{cons_limit, count_limit}
-use Rattle.records.specs.Records.{mark_width, Loc, loc_width, byte, integer_field, Sexp, SN, SC, SI, SQ, SA, sexp_bytes, record_bytes, Kind, Parallel, Sequential, Assign, kind_field, Pattern, Name, Complex, pattern_field}
+use Rattle.records.specs.Records.{mark_width, Loc, loc_width, byte, integer_field, Sexp, SN, SC, SI, SQ, SA, sexp_bytes, record_bytes, kind_field, Pattern, Name, Complex, pattern_field}
+use Rattle.records.specs.declared.Kind.{Kind}
+use Rattle.records.specs.declared.Kind.TheVariants.{Parallel, Sequential, Assign}
 use Rattle.records.proofs.Readers.{true_of}
 use Rattle.records.proofs.FirstMods.{earlier, behind, earlier_none, earlier_behind, noted_behind}
 use Rattle.records.specs.Valid.{ValidLoc, ValidName, ValidKeyword, ValidHint, ValidRaw, ValidCount, cons_depth, SexpFields, ValidSexp, ValidPattern, Outside}

@@ -5,7 +5,7 @@ use mathlib.Core.List.{List, [], ◌∷◌, ◌++◌, append_assoc, flatten}
 use Prim.Native.Nat.{ℕ, ◌+◌, ◌≤◌, ◌<◌}
 use Prim.Native.String.{String}
 use native.Mathlib.Omega.{arith}
-use lib.ListN.{length, take, drop, length-append}
+use lib.ListN.{length, take, length-append}
 use Rattle.names.specs.Names.{Bytes, ascii, name_field}
 use Rattle.names.specs.Segments.{At}
 use Rattle.names.proofs.Places.{at_left}
@@ -14,7 +14,8 @@ use Rattle.records.specs.declared.TaggedView.{TaggedView}
 use Rattle.records.specs.Depth.{depth, tail_depth, binding_depth, helper_depth, form_depth}
 use Rattle.records.specs.Lists.{joined}
 use Rattle.records.specs.Parts.{Part, family_part, sexp_part, fixed_part, list_part, many_part, tail_part, named_part, name_part, raw_part, keyword_part, hint_part, pattern_part, Skips, Past}
-use Rattle.records.specs.Records.{mark_width, loc_width, byte, record_bytes, Loc, Kind, kind_field, Sexp, Body, BL, BC, BM, BF, body_bytes, Bodies, Tail, no_tail, tail, tail_bytes, Binding, BB, binding_bytes, Bindings, HC, HM, HD, HN, HR, helper_bytes, Helpers, Form, CF, form_bytes}
+use Rattle.records.specs.Records.{mark_width, loc_width, byte, record_bytes, Loc, kind_field, Sexp, Body, BL, BC, BM, BF, body_bytes, Bodies, Tail, no_tail, tail, tail_bytes, Binding, BB, binding_bytes, Bindings, HC, HM, HD, HN, HR, helper_bytes, Helpers, Form, CF, form_bytes}
+use Rattle.records.specs.declared.Kind.{Kind}
 use Rattle.records.specs.Scan.{mark_index, body_marks, body_mark_at, helper_marks}
 use Rattle.records.specs.declared.BodyMark.TheVariants.{Quoted, Value}
 use Rattle.std.specs.declared.option.Option.TheVariants.{Some}
@@ -36,10 +37,10 @@ skips_short h l = record { within = omega arith; skips = λ t v a. absurd (omega
 
 -- the length for the mark that was found is the length
 module _ {s : Bytes} {k r : ℕ} (w : r ≤ length s) where
-  pub body_skips : k ≡ mark_index (take mark_width (drop 0 s)) body_marks → BodyOf k (Ends (family_part a_Body) s r) → Skips (family_part a_Body) s r
+  pub body_skips : k ≡ mark_index (take mark_width s) body_marks → BodyOf k (Ends (family_part a_Body) s r) → Skips (family_part a_Body) s r
   body_skips q h = record { within = w; skips = λ t v a. body_by_mark (Ends (family_part a_Body) s r) q h t a v a }
 
-  pub helper_skips : k ≡ mark_index (take mark_width (drop 0 s)) helper_marks → HelperOf k (Ends (family_part a_helper) s r) → Skips (family_part a_helper) s r
+  pub helper_skips : k ≡ mark_index (take mark_width s) helper_marks → HelperOf k (Ends (family_part a_helper) s r) → Skips (family_part a_helper) s r
   helper_skips q h = record { within = w; skips = λ t v a. helper_by_mark (Ends (family_part a_helper) s r) q h t a v a }
 
 -- a count, and that many trees
@@ -116,7 +117,7 @@ module _ {s : Bytes} (m : mark_width ≤ length s) where
       closed (close_step z b (f.5, omega arith, omega arith) (close_many y (listed_bindings bs f.4 (omega arith) (omega arith)) fields))
 
   -- one that holds an S record, a BQ or a BV
-  pub sexp_skips : {r : ℕ} → Past sexp_part s mark_width r → let k = mark_index (take mark_width (drop 0 s)) body_marks in (Some Quoted ≡ body_mark_at k) ⊎ (Some Value ≡ body_mark_at k)
+  pub sexp_skips : {r : ℕ} → Past sexp_part s mark_width r → let k = mark_index (take mark_width s) body_marks in (Some Quoted ≡ body_mark_at k) ⊎ (Some Value ≡ body_mark_at k)
       → Skips (family_part a_Body) s r
   unfolding ascii body_bytes BodyFields BodyOf
   sexp_skips y (inl q) = body_skips y.within (body_placed refl q) (λ e v a. closed (close_step y e v.0 (behind "BQ" _ m refl a)))

@@ -13,7 +13,9 @@ use Rattle.names.specs.Names.{Bytes, ascii, same, number_of, number_after, name_
 use Rattle.names.specs.Refusals.{place_at}
 use Rattle.records.specs.Lists.{Each}
 use Rattle.records.specs.Limits.{level_limit, cons_limit, lambda_limit, count_limit}
-use Rattle.records.specs.Records.{mark_width, loc_width, raw_width, byte, Sexp, SN, SC, SI, SQ, SA, Kind, Assign, Name, Complex, Body, BL, BQ, BV, BC, BM, BF, Tail, no_tail, tail, Binding, BB, Helper, HC, HM, HD, HN, HR, Form, CF, to_bodies, to_bindings, to_helpers, integer_width}
+use Rattle.records.specs.Records.{mark_width, loc_width, raw_width, byte, Sexp, SN, SC, SI, SQ, SA, Name, Complex, Body, BL, BQ, BV, BC, BM, BF, Tail, no_tail, tail, Binding, BB, Helper, HC, HM, HD, HN, HR, Form, CF, to_bodies, to_bindings, to_helpers, integer_width}
+use Rattle.records.specs.declared.Kind.{Kind}
+use Rattle.records.specs.declared.Kind.TheVariants.{Assign}
 use Rattle.records.specs.Valid.{IsByte, AreBytes, ValidLoc, ValidName, WithLoc, ValidKeyword, ValidHint, ValidRaw, ValidCount, cons_depth, SexpFields, ValidSexp, ValidPattern, BodyFields, BodiesFields, TailFields, BindingFields, BindingsFields, HelperFields, HelpersFields, FormFields, lambda_depth, bodies_lambda_depth, tail_lambda_depth, binding_lambda_depth, bindings_lambda_depth, helper_lambda_depth, helpers_lambda_depth, form_lambda_depth, ValidHelper, ValidForm, ValidAssign, IsLet}
 use Rattle.records.specs.Read.{Zone, Context, sexp_rule, cons_rule, sexp_at, sexp, note, Readers, kind_of, more_levels, in_bindings, pattern_after, pattern_of, binding, let_of, tail_after, call_tail, body_rule, helper_rule, form_rule, rules, readers, assign_of, whole, read_whole}
 use Rattle.records.specs.ReadFields.{Input, Fault, malformed, over_limit, Read, done, refused, Reader, ◌>>=◌, ◌>>◌, ret, refuse, check, times, deeper, in_lambda, in_zone, next, bytes, choose, marked, loc, name, raw_field, integer, up_to, with_loc, keyword, hint, count, shortest, counted, at_most, optional_loc}

@@ -12,7 +12,9 @@ use Rattle.names.specs.Segments.{At}
 use Rattle.records.specs.Depth.{depth}
 use Rattle.records.specs.Limits.{level_limit, lambda_limit}
 use Rattle.records.specs.Read.{kind_of}
-use Rattle.records.specs.Records.{head_width, mark_width, loc_width, integer_width, integer_field, byte, record_bytes, Kind, Parallel, Sequential, Assign, kind_field, Pattern, Name, Complex, pattern_field, Tail, no_tail, tail, tail_bytes, Sexp, sexp_bytes, body_bytes, HN, helper_bytes, Helpers, helpers_bytes, form_bytes, bodies_count, bindings_count, helpers_count}
+use Rattle.records.specs.Records.{head_width, mark_width, loc_width, integer_width, integer_field, byte, record_bytes, kind_field, Pattern, Name, Complex, pattern_field, Tail, no_tail, tail, tail_bytes, Sexp, sexp_bytes, body_bytes, HN, helper_bytes, Helpers, helpers_bytes, form_bytes, bodies_count, bindings_count, helpers_count}
+use Rattle.records.specs.declared.Kind.{Kind}
+use Rattle.records.specs.declared.Kind.TheVariants.{Parallel, Sequential, Assign}
 use Rattle.records.specs.Valid.{ValidLoc, ValidName, ValidRaw, ValidSexp, ValidHelper, BodyFields, HelperFields, FormFields, lambda_depth}
 use Rattle.records.specs.declared.Family.TheVariants.{Body as a_Body}
 use Rattle.records.specs.Parts.{Part, Past, fixed_part, name_part, raw_part, keyword_part, hint_part, sexp_part, family_part}
@@ -199,12 +201,12 @@ module _ {s : Bytes} {at first count : ℕ} where
     closes = λ l bs t v a. close_step y _ (byte_length (bodies_count bs)) (close_head "BC" x l _ refl v.0.0 a);
   }
 
-module _ {s : Bytes} {m kind loc keyword hint at count first : ℕ} where
-  pub sees_let : Past (fixed_part mark_width) s 0 m → ByteAt s m kind → Past (fixed_part 1) s m loc → Past (fixed_part loc_width) s loc keyword → Past keyword_part s keyword hint
+module _ {s : Bytes} {kind : Kind} {m b loc keyword hint at count first : ℕ} where
+  pub sees_let : kind ≡ kind_of b → Past (fixed_part mark_width) s 0 m → ByteAt s m b → Past (fixed_part 1) s m loc → Past (fixed_part loc_width) s loc keyword → Past keyword_part s keyword hint
       → Past hint_part s hint at → ByteAt s at count → Past (fixed_part 1) s at first
       → SeesLet s (record { kind = kind; loc = loc; keyword = keyword; hint = hint; count = count; first = first })
   unfolding ascii body_bytes BodyFields
-  sees_let xm bk xk xl xw xh bc xc = record {
+  sees_let q xm bk xk xl xw xh bc xc = record {
     within = xc.within;
     sees = λ k l w h bs b v a.
         let hk = step xm (ascii "BL") refl (opened "BL" _ a) in
@@ -213,7 +215,7 @@ module _ {s : Bytes} {m kind loc keyword hint at count first : ℕ} where
         let hh = step xw w v.0.1 hw in
         let hc = step xh h v.0.2 hh in
         record {
-          kind = kind_at bk k (first_of hk);
+          kind = q ∙ kind_at bk k (first_of hk);
           loc = first_of hl;
           keyword = first_of hw;
           hint = first_of hh;

@@ -3,7 +3,8 @@
 -- Assumes nothing.
 use Rattle.std.specs.Prelude.{◌≡◌, List, [], ◌∷◌, ℕ, ◌+◌, ◌≤◌, length}
 use Rattle.names.specs.Names.{Bytes, ascii, name_field}
-use Rattle.records.specs.Records.{Loc, byte, sexp_bytes, Assign, kind_field, pattern_field, Body, BL, BQ, BV, BC, BM, BF, body_bytes, Bodies, []ᵇ, ◌∷ᵇ◌, bodies_bytes, Tail, no_tail, tail, tail_bytes, Binding, BB, binding_bytes, Bindings, []ᵍ, ◌∷ᵍ◌, bindings_bytes, Helper, HC, HM, HD, HN, HR, helper_bytes, Helpers, []ʰ, ◌∷ʰ◌, helpers_bytes, Form, CF, form_bytes, bodies_count, bindings_count, helpers_count}
+use Rattle.records.specs.Records.{Loc, byte, sexp_bytes, kind_field, pattern_field, Body, BL, BQ, BV, BC, BM, BF, body_bytes, Bodies, []ᵇ, ◌∷ᵇ◌, bodies_bytes, Tail, no_tail, tail, tail_bytes, Binding, BB, binding_bytes, Bindings, []ᵍ, ◌∷ᵍ◌, bindings_bytes, Helper, HC, HM, HD, HN, HR, helper_bytes, Helpers, []ʰ, ◌∷ʰ◌, helpers_bytes, Form, CF, form_bytes, bodies_count, bindings_count, helpers_count}
+use Rattle.records.specs.declared.Kind.TheVariants.{Assign}
 
 -- a part of a tree: a record, records one after the other, or the tail of a call; an S record has no BM in it, and is none
 pub data Node : Type 0 where

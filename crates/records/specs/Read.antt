@@ -9,8 +9,10 @@ pub use Rattle.records.specs.declared.Context.{Context}
 pub use Rattle.records.specs.declared.Zone.{Zone}
 pub use Rattle.records.specs.declared.Zone.TheVariants.{Plain, InBinding, InMod}
 use Rattle.records.specs.Limits.{level_limit, cons_limit, lambda_limit}
-use Rattle.records.specs.Records.{Sexp, SN, SC, SI, SQ, SA, Kind, Parallel, Sequential, Assign, Pattern, Name, Complex, Body, BL, BQ, BV, BC, BM, BF, Tail, no_tail, tail, Binding, BB, Helper, HC, HM, HD, HN, HR, Form, CF, to_bodies, to_bindings, to_helpers}
-use Rattle.records.specs.ReadFields.{Fault, Input, Reader, ◌>>=◌, ◌>>◌, at_most, bytes, check, choose, count, counted, deeper, done, fault_number, hint, in_lambda, in_zone, integer, keyword, loc, malformed, marked, name, next, optional_loc, over_limit, raw_field, refuse, refused, ret, shortest, times, up_to, with_loc}
+use Rattle.records.specs.Records.{Sexp, SN, SC, SI, SQ, SA, Pattern, Name, Complex, Body, BL, BQ, BV, BC, BM, BF, Tail, no_tail, tail, Binding, BB, Helper, HC, HM, HD, HN, HR, Form, CF, to_bodies, to_bindings, to_helpers}
+use Rattle.records.specs.declared.Kind.{Kind}
+use Rattle.records.specs.declared.Kind.TheVariants.{Parallel, Sequential, Assign}
+use Rattle.records.specs.ReadFields.{Fault, Input, Reader, ◌>>=◌, ◌>>◌, at_most, bytes, check, choose, count, counted, deeper, done, fault_reason, hint, in_lambda, in_zone, integer, keyword, loc, malformed, marked, name, next, optional_loc, over_limit, raw_field, refuse, refused, ret, shortest, times, up_to, with_loc}
 
 -- the S records, whose SC is read by `cons`
 abbrev pub sexp_kinds : Reader Sexp → List (String × Reader Sexp)
@@ -302,5 +304,5 @@ read_whole m bs = elim (m outermost (from_first bs)) [ done a i ↦ left_over a 
 
 -- unfolds with every definition of this file
 unfoldable pub computing_read : Unit {0}
-unfolding fault_number ◌>>=◌ ◌>>◌ ret refuse check times deeper in_lambda in_zone next bytes choose marked counted raw_field at_most with_loc optional_loc shortest integer sexp_rule cons_rule sexp_at sexp kind_of more_levels binding_zone noted note in_bindings pattern_after pattern_of binding let_of tail_after call_tail body_rule helper_rule form_rule rules readers assign_of left_over read_whole
+unfolding fault_reason ◌>>=◌ ◌>>◌ ret refuse check times deeper in_lambda in_zone next bytes choose marked counted raw_field at_most with_loc optional_loc shortest integer sexp_rule cons_rule sexp_at sexp kind_of more_levels binding_zone noted note in_bindings pattern_after pattern_of binding let_of tail_after call_tail body_rule helper_rule form_rule rules readers assign_of left_over read_whole
 computing_read = tt

@@ -3,6 +3,8 @@ use Rattle.std.specs.Prelude.{Bool, true, false, ◌&&◌, ◌||◌, not, List, 
 use Prim.Native.String.{String}
 use Rattle.names.specs.Names.{Bytes, ascii, same, number_of, name_width}
 use Rattle.names.specs.Refusals.{place_at}
+use Rattle.names.specs.declared.Reason.{Reason}
+use Rattle.names.specs.declared.Reason.TheVariants.{NotOneRecord, PastLimit}
 use Rattle.names.specs.declared.Place.{Place}
 pub use Rattle.records.specs.declared.Context.{Context}
 pub use Rattle.records.specs.declared.Zone.{Zone}
@@ -19,10 +21,10 @@ pub record Input : Type 0 where
 pub data Fault : Type 0 where
   malformed over_limit : Fault
 
--- a fault's refusal number
-unfoldable pub fault_number : Fault → ℕ
-fault_number malformed = 2
-fault_number over_limit = 3
+-- the reason for which a fault refuses
+unfoldable pub fault_reason : Fault → Reason
+fault_reason malformed = NotOneRecord
+fault_reason over_limit = PastLimit
 
 -- or a fault, and its place
 pub data Read (A : Type 0) : Type 0 where

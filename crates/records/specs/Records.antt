@@ -5,6 +5,8 @@ use mathlib.Core.List.{List, [], ◌∷◌, ◌++◌, flatten}
 use Rattle.std.specs.Prelude.{ℕ, suc, ◌+◌, length}
 use Prim.Native.String.{String}
 use Rattle.names.specs.Names.{Bytes, ascii, number_field, name_field, number_of}
+pub use Rattle.records.specs.declared.Kind.{Kind}
+pub use Rattle.records.specs.declared.Kind.TheVariants.{Parallel, Sequential, Assign}
 
 infixr 67 ◌∷ᵇ◌
 infixr 67 ◌∷ᵍ◌
@@ -40,10 +42,6 @@ pub data Sexp : Type 0 where
   SI : Loc → Bytes → Sexp
   SQ : Loc → ℕ → Bytes → Sexp
   SA : Loc → Bytes → Sexp
-
--- let, let* and assign
-pub data Kind : Type 0 where
-  Parallel Sequential Assign : Kind
 
 -- what a binding binds
 pub data Pattern : Type 0 where

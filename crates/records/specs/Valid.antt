@@ -4,7 +4,9 @@
 use Rattle.std.specs.Prelude.{◌≡◌, true, ◌∷◌, ◌++◌, ◌⊎◌, ℕ, ◌+◌, ◌≤◌, ◌<◌, max, length, get_or}
 use Rattle.names.specs.Names.{Bytes, name_limit, number_of}
 use Rattle.records.specs.Limits.{level_limit, cons_limit, lambda_limit, count_limit}
-use Rattle.records.specs.Records.{Loc, loc_width, raw_width, byte, Sexp, SN, SC, SI, SQ, SA, Kind, Assign, Pattern, Name, Complex, Body, BL, BQ, BV, BC, BM, BF, Bodies, []ᵇ, ◌∷ᵇ◌, Tail, no_tail, tail, Binding, BB, Bindings, []ᵍ, ◌∷ᵍ◌, Helper, HC, HM, HD, HN, HR, Helpers, []ʰ, ◌∷ʰ◌, Form, CF, bindings_count, bodies_count, helpers_count}
+use Rattle.records.specs.Records.{Loc, loc_width, raw_width, byte, Sexp, SN, SC, SI, SQ, SA, Pattern, Name, Complex, Body, BL, BQ, BV, BC, BM, BF, Bodies, []ᵇ, ◌∷ᵇ◌, Tail, no_tail, tail, Binding, BB, Bindings, []ᵍ, ◌∷ᵍ◌, Helper, HC, HM, HD, HN, HR, Helpers, []ʰ, ◌∷ʰ◌, Form, CF, bindings_count, bodies_count, helpers_count}
+use Rattle.records.specs.declared.Kind.{Kind}
+use Rattle.records.specs.declared.Kind.TheVariants.{Assign}
 use Rattle.records.specs.Read.{Zone, Plain, InBinding, InMod, binding_zone}
 use Rattle.records.specs.ReadFields.{shortest}
 use Rattle.records.specs.Depth.{depth, helper_depth, form_depth}

@@ -4,8 +4,8 @@ use Rattle.std.specs.Prelude.{◌≡◌, ℕ, ◌+◌, ◌^◌, ◌≤◌, ◌<�
 use mathlib.Core.List.{List, [], ◌∷◌, ◌++◌, flatten}
 use Rattle.names.specs.Names.{Bytes, ascii, number_of, number_field, name_width, name_field}
 use Rattle.names.specs.Segments.{At}
-use Rattle.records.specs.Read.{kind_of}
-use Rattle.records.specs.Records.{mark_width, head_width, integer_width, Loc, integer_field, Sexp, SN, SC, SI, SQ, SA, sexp_bytes, Kind, Pattern, Name, Complex, pattern_field, Body, BL, BQ, BV, BC, BF, body_bytes, Bodies, bodies_bytes, bodies_count, Tail, no_tail, tail, tail_bytes, Bindings, bindings_bytes, bindings_count, HC, HM, HD, HN, helper_bytes, Helpers, helpers_bytes, helpers_count, Form, CF, form_bytes}
+use Rattle.records.specs.Records.{mark_width, head_width, integer_width, Loc, integer_field, Sexp, SN, SC, SI, SQ, SA, sexp_bytes, Pattern, Name, Complex, pattern_field, Body, BL, BQ, BV, BC, BF, body_bytes, Bodies, bodies_bytes, bodies_count, Tail, no_tail, tail, tail_bytes, Bindings, bindings_bytes, bindings_count, HC, HM, HD, HN, helper_bytes, Helpers, helpers_bytes, helpers_count, Form, CF, form_bytes}
+use Rattle.records.specs.declared.Kind.{Kind}
 use Rattle.records.specs.Scan.{mark_index, sexp_marks}
 use Rattle.records.specs.Valid.{ValidLoc, ValidName, ValidInteger, ValidRaw, SexpFields, ValidSexp, ValidBody, ValidHelper, ValidForm}
 use Rattle.records.specs.Parts.{Past, fixed_part}
@@ -99,7 +99,7 @@ pub record SeesCall (s : Bytes) (v : CallView) : Type 0 where
 
 -- a BL: its fields; how many bindings; they and the body
 pub record LetAt (s : Bytes) (v : LetView) (k : Kind) (l : Loc) (w h : Bytes) (bs : Bindings) (b : Body) : Type 0 where
-  pub kind : kind_of v.kind ≡ k
+  pub kind : v.kind ≡ k
   pub loc : At s v.loc l
   pub keyword : At s v.keyword w
   pub hint : At s v.hint h

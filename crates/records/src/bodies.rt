@@ -3,7 +3,7 @@ ghost use Rattle.records.specs.Views.{SeesCall, SeesLet, SeesLambda, SeesQuote, 
 
 use crate::past::{byte_at, past_bytes, past_head, past_hint, past_keyword};
 use crate::skip::{past_record, past_sexp};
-use crate::{CallView, Family, LOC_WIDTH, LambdaView, LetView, MARK_WIDTH};
+use crate::{CallView, Family, Kind, LOC_WIDTH, LambdaView, LetView, MARK_WIDTH};
 
 // A BC.
 pub fn call_view(s: &[u8]) -> CallView
@@ -20,7 +20,7 @@ pub fn let_view(s: &[u8]) -> LetView
     ensures { SeesLet s.now result }
 {
     let at = past_bytes(s, 0, MARK_WIDTH);
-    let kind = byte_at(s, at);
+    let kind = Kind::from(byte_at(s, at));
     let loc = past_bytes(s, at, 1);
     let keyword = past_bytes(s, loc, LOC_WIDTH);
     let hint = past_keyword(s, keyword);

@@ -1,126 +1,140 @@
-// The fields of a record. Each function goes on from a reading of the bytes s of a record whose
-// mark stands at `mark`.
-ghost use Rattle.std.specs.Prelude.{◌≡◌, ◌≤◌, length};
+// The fields of a record. Each method goes on from a reading of a record whose mark stands at `mark`.
+ghost use Rattle.std.specs.Prelude.{◌≡◌, ◌≤◌, IfOk};
 ghost use Rattle.names.specs.Refusals.{place_at, refusing};
-ghost use Rattle.records.specs.ReadFields.{Fault, fault_number, bytes, loc, counted, name, raw_field, integer, at_most, optional_loc, keyword, hint, count, shortest};
-ghost use Rattle.records.specs.Scan.{Reads, Within};
+ghost use Rattle.records.specs.ReadFields.{Fault, fault_reason, next, bytes, loc, counted, name, raw_field, integer, at_most, optional_loc, keyword, hint, count, shortest};
+ghost use Rattle.records.specs.Records.{mark_width};
+ghost use Rattle.records.specs.Scan.{Reads, SameBytes, left_in, next_byte};
 
-use crate::{COUNT_LIMIT, INTEGER_WIDTH, LOC_WIDTH, RAW_WIDTH, Scan};
+use crate::{COUNT_LIMIT, INTEGER_WIDTH, LOC_WIDTH, MARK_WIDTH, RAW_WIDTH, Scan};
 use names::bytes::number;
 use names::refusals::{place_at, refusing};
-use names::{NAME_WIDTH, Refusal};
+use names::{NAME_WIDTH, Reason, Refusal};
 
 // A refusal, at the record's mark.
-pub fn refused(mark: usize, number: u32) -> Refusal
-    ensures { result ≡ refusing number (place_at mark) }
+pub fn refused(mark: usize, reason: Reason) -> Refusal
+    ensures { result ≡ refusing reason (place_at mark) }
 {
-    refusing(number, place_at(mark as u64))
+    // A cast: Rust has no From of usize for u64, and TryFrom would answer an error that cannot come.
+    refusing(reason, place_at(mark as u64))
 }
 
-// So many bytes.
-pub fn bytes(s: &[u8], mark: usize, c: Scan, n: usize) -> Result<Scan, Refusal>
-    requires { c.at ≤ length s.now }
-    ensures { Reads (bytes n) mark s.now c result }
-{
-    if s.len() - c.at < n {
-        return Err(refused(mark, 2));
+// The mark and the fields of a record.
+impl<'a> Scan<'a> {
+    // The mark of a record.
+    pub fn past_mark(&mut self, mark: usize) -> Result<(), Refusal>
+        ensures { Reads (bytes mark_width) mark self.old (left_in self.new result) }
+    {
+        self.bytes(mark, MARK_WIDTH)
     }
-    Ok(Scan { at: c.at + n, ..c })
-}
 
-// A location.
-pub fn loc(s: &[u8], mark: usize, c: Scan) -> Result<Scan, Refusal>
-    requires { c.at ≤ length s.now }
-    ensures { Reads loc mark s.now c result }
-{
-    bytes(s, mark, c, LOC_WIDTH)
-}
-
-// A length of `width` bytes, and that many bytes.
-fn counted(s: &[u8], mark: usize, c: Scan, width: usize) -> Result<Scan, Refusal>
-    requires at_in_bounds { c.at ≤ length s.now }
-    requires width_bound { width ≤ 8 }
-    ensures { Reads (counted width) mark s.now c result }
-{
-    let d = bytes(s, mark, c, width)?;
-    bytes(s, mark, d, number(s, c.at, width))
-}
-
-// A name.
-pub fn name(s: &[u8], mark: usize, c: Scan) -> Result<Scan, Refusal>
-    requires { c.at ≤ length s.now }
-    ensures { Reads name mark s.now c result }
-{
-    counted(s, mark, c, NAME_WIDTH)
-}
-
-// A field that is only copied.
-pub fn raw(s: &[u8], mark: usize, c: Scan) -> Result<Scan, Refusal>
-    requires { c.at ≤ length s.now }
-    ensures { Reads raw_field mark s.now c result }
-{
-    counted(s, mark, c, RAW_WIDTH)
-}
-
-// A byte that is at most `most`; `fault` if not.
-pub fn at_most(s: &[u8], mark: usize, c: Scan, most: u8, fault: u32) -> Result<Scan, Refusal>
-    requires { c.at ≤ length s.now }
-    ensures reads { (f : Fault) → fault_number f ≡ fault → Reads (at_most f most) mark s.now c result }
-    ensures at_in_bounds { Within s.now result }
-{
-    let d = bytes(s, mark, c, 1)?;
-    if s[c.at] > most {
-        return Err(refused(mark, fault));
+    // So many bytes.
+    pub fn bytes(&mut self, mark: usize, n: usize) -> Result<(), Refusal>
+        ensures { Reads (bytes n) mark self.old (left_in self.new result) }
+    {
+        if self.s.len() - self.at < n {
+            return Err(refused(mark, Reason::NotOneRecord));
+        }
+        self.at += n;
+        Ok(())
     }
-    Ok(d)
-}
 
-// A count.
-pub fn count(s: &[u8], mark: usize, c: Scan) -> Result<Scan, Refusal>
-    requires { c.at ≤ length s.now }
-    ensures { Reads count mark s.now c result }
-{
-    at_most(s, mark, c, COUNT_LIMIT, 3)
-}
-
-// A byte of at most `most`, with a location behind it from `least` on.
-fn optional_loc(s: &[u8], mark: usize, c: Scan, least: u8, most: u8) -> Result<Scan, Refusal>
-    requires { c.at ≤ length s.now }
-    ensures { Reads (optional_loc least most) mark s.now c result }
-{
-    let d = at_most(s, mark, c, most, 2)?;
-    if s[c.at] < least {
-        return Ok(d);
+    // A location.
+    pub fn loc(&mut self, mark: usize) -> Result<(), Refusal>
+        ensures { Reads loc mark self.old (left_in self.new result) }
+    {
+        self.bytes(mark, LOC_WIDTH)
     }
-    loc(s, mark, d)
-}
 
-// The optional keyword.
-pub fn keyword(s: &[u8], mark: usize, c: Scan) -> Result<Scan, Refusal>
-    requires { c.at ≤ length s.now }
-    ensures { Reads keyword mark s.now c result }
-{
-    optional_loc(s, mark, c, 1, 1)
-}
-
-// The hint of a let.
-pub fn hint(s: &[u8], mark: usize, c: Scan) -> Result<Scan, Refusal>
-    requires { c.at ≤ length s.now }
-    ensures { Reads hint mark s.now c result }
-{
-    optional_loc(s, mark, c, 2, 3)
-}
-
-// A number's bytes after their count: at least one, and no more than it needs.
-pub fn integer(s: &[u8], mark: usize, c: Scan) -> Result<Scan, Refusal>
-    requires { c.at ≤ length s.now }
-    ensures { Reads integer mark s.now c result }
-{
-    let d = counted(s, mark, c, INTEGER_WIDTH)?;
-    if shortest(&s[c.at + INTEGER_WIDTH..d.at]) {
-        return Ok(d);
+    // A length of `width` bytes, and that many bytes.
+    fn counted(&mut self, mark: usize, width: usize) -> Result<(), Refusal>
+        requires { width ≤ 8 }
+        ensures { Reads (counted width) mark self.old (left_in self.new result) }
+    {
+        let at = self.at;
+        self.bytes(mark, width)?;
+        self.bytes(mark, number(self.s, at, width))
     }
-    Err(refused(mark, 2))
+
+    // A name.
+    pub fn name(&mut self, mark: usize) -> Result<(), Refusal>
+        ensures { Reads name mark self.old (left_in self.new result) }
+    {
+        self.counted(mark, NAME_WIDTH)
+    }
+
+    // A field that is only copied.
+    pub fn raw(&mut self, mark: usize) -> Result<(), Refusal>
+        ensures { Reads raw_field mark self.old (left_in self.new result) }
+    {
+        self.counted(mark, RAW_WIDTH)
+    }
+
+    // One byte.
+    pub fn byte(&mut self, mark: usize) -> Result<u8, Refusal>
+        ensures reads { Reads next mark self.old (left_in self.new result) }
+        ensures byte { IfOk result (λ b. b ≡ next_byte self.old) }
+    {
+        let at = self.at;
+        self.bytes(mark, 1)?;
+        Ok(self.s[at])
+    }
+
+    // A byte that is at most `most`; `fault` if not.
+    pub fn at_most(&mut self, mark: usize, most: u8, fault: Reason) -> Result<u8, Refusal>
+        ensures reads { (f : Fault) → fault_reason f ≡ fault → Reads (at_most f most) mark self.old (left_in self.new result) }
+        ensures same { SameBytes self.old (left_in self.new result) }
+        ensures byte { IfOk result (λ b. b ≡ next_byte self.old) }
+    {
+        let b = self.byte(mark)?;
+        if b > most {
+            return Err(refused(mark, fault));
+        }
+        Ok(b)
+    }
+
+    // A count.
+    pub fn count(&mut self, mark: usize) -> Result<u8, Refusal>
+        ensures reads { Reads count mark self.old (left_in self.new result) }
+        ensures byte { IfOk result (λ n. n ≡ next_byte self.old) }
+    {
+        self.at_most(mark, COUNT_LIMIT, Reason::PastLimit)
+    }
+
+    // A byte of at most `most`, with a location behind it from `least` on.
+    fn optional_loc(&mut self, mark: usize, least: u8, most: u8) -> Result<(), Refusal>
+        ensures { Reads (optional_loc least most) mark self.old (left_in self.new result) }
+    {
+        if self.at_most(mark, most, Reason::NotOneRecord)? < least {
+            return Ok(());
+        }
+        self.loc(mark)
+    }
+
+    // The optional keyword.
+    pub fn keyword(&mut self, mark: usize) -> Result<(), Refusal>
+        ensures { Reads keyword mark self.old (left_in self.new result) }
+    {
+        self.optional_loc(mark, 1, 1)
+    }
+
+    // The hint of a let.
+    pub fn hint(&mut self, mark: usize) -> Result<(), Refusal>
+        ensures { Reads hint mark self.old (left_in self.new result) }
+    {
+        self.optional_loc(mark, 2, 3)
+    }
+
+    // A number's bytes after their count: at least one, and no more than it needs.
+    pub fn integer(&mut self, mark: usize) -> Result<(), Refusal>
+        ensures { Reads integer mark self.old (left_in self.new result) }
+    {
+        let at = self.at;
+        self.counted(mark, INTEGER_WIDTH)?;
+        if shortest(&self.s[at + INTEGER_WIDTH..self.at]) {
+            return Ok(());
+        }
+        Err(refused(mark, Reason::NotOneRecord))
+    }
 }
 
 // Whether the signed bytes of a number are as few as they can be.

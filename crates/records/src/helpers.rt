@@ -1,4 +1,4 @@
-// Views of the H records and of CF.
+// Views of the H records and of CF. What some have in common is `named` and `with_args`.
 ghost use Rattle.std.specs.Prelude.{◌≤◌, length};
 ghost use Rattle.records.specs.Views.{PastNamed, PastArgs, SeesForm, SeesFunction, SeesConstant, SeesMacro, SeesNamespace};
 

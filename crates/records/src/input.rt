@@ -1,15 +1,16 @@
 // The refusals of every call before any work: 1, 3 by length, 2 and 3 by reading, and 4 where a call has it.
-ghost use Rattle.std.specs.Prelude.{◌≡◌, ◌≤◌, length};
+// A struct of the five things that each function is given would be made at a call to be taken apart at once.
+ghost use Rattle.std.specs.Prelude.{◌≡◌, ◌≤◌, None, length};
 ghost use Rattle.records.specs.Limits.{most_longest};
 ghost use Rattle.records.specs.Opened.{limits, open_by, read_input, open_input};
 ghost use Rattle.records.specs.Read.{outermost};
-ghost use Rattle.records.specs.Scan.{Comes, first_scan, wanted_reader, judged_by, opening_of};
+ghost use Rattle.records.specs.Scan.{Comes, starts, first_of, kept_of, wanted_reader, opening_of};
 
 use crate::record::{assign, read_record};
-use crate::start::{from_place, outermost};
+use crate::start::outermost;
 use crate::{Family, LEAST_LONGEST, MOST_LONGEST, Scan, WORK_FACTOR, Wanted};
 use names::refusals::{place_at, placeless, refusing};
-use names::{MAX_COUNTER, Refusal};
+use names::{MAX_COUNTER, Reason, Refusal};
 
 // Whether F, the length of work memory and the counter are within their limits.
 fn within(f: usize, work: usize, counter: u64) -> bool
@@ -30,45 +31,39 @@ fn within(f: usize, work: usize, counter: u64) -> bool
 // Reads a whole input from its first byte.
 fn read_from_first(wanted: Wanted, input: &[u8]) -> Result<Scan, Refusal>
     requires { length input.now ≤ most_longest }
-    ensures { Comes (wanted_reader wanted).1 outermost input.now first_scan result }
+    ensures { Comes (wanted_reader wanted).1 outermost (starts input.entry None) result }
 {
     let x = outermost();
-    let c = from_place(0);
     match wanted {
-        Wanted::Form => read_record(input, x, Family::Form, c),
-        Wanted::Helper => read_record(input, x, Family::Helper, c),
-        Wanted::Assign => assign(input, x, c),
+        Wanted::Form => read_record(input, x, Family::Form, None),
+        Wanted::Helper => read_record(input, x, Family::Helper, None),
+        Wanted::Assign => assign(input, x, None),
     }
 }
 
-// The first of the refusals before any work, or none; 4 is none of them if mods says that a BM may stand anywhere.
-fn open_by(
-    mods: bool,
+// The first of the refusals 1, 3 by length, 2 and 3 by reading, or the first BM in a binding body of
+// an assign, if there is one.
+fn opened(
     wanted: Wanted,
     f: usize,
     work: usize,
     counter: u64,
     input: &[u8],
-) -> Result<(), Refusal>
-    ensures { result ≡ opening_of (open_by (judged_by mods) (wanted_reader wanted).1 f work counter input.now) }
+) -> Result<Option<usize>, Refusal>
+    ensures { result ≡ kept_of (open_by first_of (wanted_reader wanted).1 f work counter input.now) }
 {
     if !within(f, work, counter) {
-        return Err(placeless(1));
+        return Err(placeless(Reason::OutOfRange));
     }
     if input.len() > f {
-        return Err(placeless(3));
+        return Err(placeless(Reason::PastLimit));
     }
     let r = read_from_first(wanted, input)?;
     if r.at < input.len() {
-        return Err(refusing(2, place_at(r.at as u64)));
+        // A cast: Rust has no From of usize for u64, and TryFrom would answer an error that cannot come.
+        return Err(refusing(Reason::NotOneRecord, place_at(r.at as u64)));
     }
-    if mods {
-        return Ok(());
-    }
-    match r.first {
-        Some(p) => Err(refusing(4, place_at(p as u64))),
-        None => Ok(()),
-    }
+    Ok(r.first)
 }
 
 // The first of the refusals 1, 3 by length, 2 and 3 by reading, or none: a BM may stand anywhere.
@@ -81,7 +76,8 @@ pub fn read_input(
 ) -> Result<(), Refusal>
     ensures { result ≡ opening_of (read_input (wanted_reader wanted).1 f work counter input.now) }
 {
-    open_by(true, wanted, f, work, counter, input)
+    opened(wanted, f, work, counter, input)?;
+    Ok(())
 }
 
 // The first of the same refusals and 4 after them, or none.
@@ -94,5 +90,9 @@ pub fn open_input(
 ) -> Result<(), Refusal>
     ensures { result ≡ opening_of (open_input (wanted_reader wanted).1 f work counter input.now) }
 {
-    open_by(false, wanted, f, work, counter, input)
+    match opened(wanted, f, work, counter, input)? {
+        // A cast: Rust has no From of usize for u64, and TryFrom would answer an error that cannot come.
+        Some(p) => Err(refusing(Reason::ModInBinding, place_at(p as u64))),
+        None => Ok(()),
+    }
 }

@@ -5,6 +5,8 @@
 // where its fields and children start. `start` has where a reading starts.
 #![tactic(auto)]
 
+ghost use Rattle.std.specs.Prelude.{◌≤◌, length};
+
 pub mod bodies;
 pub mod fields;
 pub mod helpers;
@@ -83,6 +85,14 @@ pub enum HelperMark {
     Reference,
 }
 
+// The kinds of a let: let, let* and assign.
+#[derive(Clone, Copy, PartialEq, Eq)]
+pub enum Kind {
+    Parallel,
+    Sequential,
+    Assign,
+}
+
 // Where a record stands: in no assign's binding body; in one, and in no BM; in a BM.
 #[derive(Clone, Copy)]
 pub enum Zone {
@@ -110,12 +120,16 @@ pub enum Family {
     Form,
 }
 
-// How far a record is read: the offset of the next byte, from the record's mark, and the offset of
-// the first BM met in a binding body of an assign.
+// A reading of the bytes s of a record: the offset of the next byte, from the record's mark, and the
+// offset of the first BM met in a binding body of an assign. That the mark's place and the bytes add up to
+// a number of the machine is asked by clauses where children are read: a type that says so would ask it of
+// plain fields too.
 #[derive(Clone, Copy)]
-pub struct Scan {
-    pub at: usize,
-    pub first: Option<usize>,
+pub struct Scan<'a> {
+    s: &'a [u8],
+    at: usize,
+    first: Option<usize>,
+    ghost in_bounds: { at ≤ length s.now },
 }
 
 // The record that a call wants: a CF, an H record, or one BL of kind 2.
@@ -127,7 +141,7 @@ pub enum Wanted {
 }
 
 // What a step read and wrote, and the counter that it left.
-#[derive(Clone, Copy)]
+#[derive(Clone, Copy, PartialEq, Eq)]
 pub struct Step {
     pub read: usize,
     pub written: usize,
@@ -141,18 +155,19 @@ pub struct NameView {
     pub end: usize,
 }
 
-// A byte that says what follows, and where that starts.
+// A byte that says what follows, and where that starts. The byte as it stands: a pattern and a tail mean
+// different things by it.
 #[derive(Clone, Copy)]
 pub struct TaggedView {
     pub tag: u8,
     pub next: usize,
 }
 
-// A BL: its kind byte, where L, K and the hint start, the number of its bindings, and where the
+// A BL: its kind, where L, K and the hint start, the number of its bindings, and where the
 // first of them starts.
 #[derive(Clone, Copy)]
 pub struct LetView {
-    pub kind: u8,
+    pub kind: Kind,
     pub loc: usize,
     pub keyword: usize,
     pub hint: usize,
@@ -221,5 +236,6 @@ pub enum SexpView {
     Integer(NameView),
     Text(NameView),
     Atom(NameView),
+    // No plainer as None: most callers take it with the kinds that they do not look for.
     Unknown,
 }

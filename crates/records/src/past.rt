@@ -1,4 +1,5 @@
-// Where a field that stands at a place ends, and what stands there.
+// Where a field that stands at a place ends, and what stands there. A place goes beside its bytes and not
+// in a struct with them: views keep places, and callers have the bytes.
 ghost use Rattle.std.specs.Prelude.{◌≡◌, ◌≤◌, length, get_or};
 ghost use Rattle.records.specs.Views.{PastHead, SeesCounted, SeesName, SeesInteger, SeesTagged};
 ghost use Rattle.records.specs.Parts.{name_part, counted_part, raw_part, optional_part, keyword_part, hint_part, pattern_part, Past, PastBytes};

@@ -1,61 +1,44 @@
-// B, BB, H and CF records. Each function goes on from a reading of the bytes s of a record.
-ghost use Rattle.std.specs.Prelude.{◌≡◌, ◌+◌, ◌^◌, ◌≤◌, ◌<◌, length, take, drop, Ok};
+// B, BB, H and CF records.
+ghost use Rattle.std.specs.Prelude.{◌≡◌, ◌+◌, ◌^◌, ◌≤◌, ◌<◌, length, take, Ok};
 ghost use Rattle.records.specs.Records.{mark_width};
 ghost use Rattle.records.specs.Limits.{level_limit};
 ghost use Rattle.records.specs.Read.{note, pattern_of, let_after, call_after, mod_after, constant_after, macro_after, function_after, namespace_after, reference_after, kind_of, more_levels, binding_zone, assign_of};
-ghost use Rattle.records.specs.Scan.{mark_index, body_marks, body_mark_at, helper_marks, helper_mark_at, reader_of, times_of, many_of, let_of_kind, tail_of, body_after, lambda_within, helper_after, below, in_zone_of, Comes, Reads, Goes};
+ghost use Rattle.records.specs.Scan.{body_mark_of, helper_mark_of, left_in, reader_of, times_of, many_of, let_of_kind, tail_of, body_after, lambda_within, helper_after, below, in_zone_of, starts, Comes, Reads, Goes};
 
-use crate::fields::{at_most, bytes, count, hint, keyword, loc, name, raw, refused};
-use crate::sexp::child_sexp;
-use crate::{BodyMark, CONS_LIMIT, Context, Family, HelperMark, MARK_WIDTH, Scan, Zone};
-use names::Refusal;
+use crate::fields::refused;
+use crate::{BodyMark, CONS_LIMIT, Context, Family, HelperMark, Kind, Scan, Zone};
 use names::bytes::is_word;
+use names::{Reason, Refusal};
 
 // Which mark of a B record stands at the start of s, if any.
+#[tactic(auto, unfolding(crate::specs::Scan::mark_index, names::specs::Names::same, names::specs::Names::ascii))]
 pub fn body_mark(s: &[u8]) -> Option<BodyMark>
-    ensures { result ≡ body_mark_at (mark_index (take mark_width (drop 0 s.now)) body_marks) }
+    ensures { result ≡ body_mark_of (take mark_width s.now) }
 {
-    if is_word(s, 0, b"BV") {
-        return Some(BodyMark::Value);
+    match s {
+        [b'B', b'V', ..] => Some(BodyMark::Value),
+        [b'B', b'C', ..] => Some(BodyMark::Call),
+        [b'B', b'Q', ..] => Some(BodyMark::Quoted),
+        [b'B', b'L', ..] => Some(BodyMark::Let),
+        [b'B', b'F', ..] => Some(BodyMark::Lambda),
+        [b'B', b'M', ..] => Some(BodyMark::Mod),
+        _ => None,
     }
-    if is_word(s, 0, b"BC") {
-        return Some(BodyMark::Call);
-    }
-    if is_word(s, 0, b"BQ") {
-        return Some(BodyMark::Quoted);
-    }
-    if is_word(s, 0, b"BL") {
-        return Some(BodyMark::Let);
-    }
-    if is_word(s, 0, b"BF") {
-        return Some(BodyMark::Lambda);
-    }
-    if is_word(s, 0, b"BM") {
-        return Some(BodyMark::Mod);
-    }
-    None
 }
 
 // Which mark of an H record stands at the start of s, if any.
+#[tactic(auto, unfolding(crate::specs::Scan::mark_index, names::specs::Names::same, names::specs::Names::ascii))]
 pub fn helper_mark(s: &[u8]) -> Option<HelperMark>
-    ensures { result ≡ helper_mark_at (mark_index (take mark_width (drop 0 s.now)) helper_marks) }
+    ensures { result ≡ helper_mark_of (take mark_width s.now) }
 {
-    if is_word(s, 0, b"HD") {
-        return Some(HelperMark::Function);
+    match s {
+        [b'H', b'D', ..] => Some(HelperMark::Function),
+        [b'H', b'C', ..] => Some(HelperMark::Constant),
+        [b'H', b'M', ..] => Some(HelperMark::Macro),
+        [b'H', b'N', ..] => Some(HelperMark::Namespace),
+        [b'H', b'R', ..] => Some(HelperMark::Reference),
+        _ => None,
     }
-    if is_word(s, 0, b"HC") {
-        return Some(HelperMark::Constant);
-    }
-    if is_word(s, 0, b"HM") {
-        return Some(HelperMark::Macro);
-    }
-    if is_word(s, 0, b"HN") {
-        return Some(HelperMark::Namespace);
-    }
-    if is_word(s, 0, b"HR") {
-        return Some(HelperMark::Reference);
-    }
-    None
 }
 
 // The context n levels further down.
@@ -69,366 +52,385 @@ fn down(x: Context, n: usize) -> Context
     }
 }
 
+impl From<u8> for Kind {
+    ghost from_gives = { λ byte result. result ≡ kind_of byte };
+
+    // The kind that a kind byte means.
+    #[tactic(auto, using(crate::proofs::ContextLaws::other_kind), unfolding(crate::specs::Read::kind_of))]
+    fn from(byte: u8) -> Kind {
+        match byte {
+            0 => Kind::Parallel,
+            1 => Kind::Sequential,
+            _ => Kind::Assign,
+        }
+    }
+}
+
 // How many levels more than one a let takes.
-fn more_levels(kind: u8, n: u8) -> usize
-    ensures { result ≡ more_levels (kind_of kind) n }
+#[tactic(auto, unfolding(crate::specs::Read::more_levels))]
+fn more_levels(kind: Kind, n: u8) -> usize
+    ensures { result ≡ more_levels kind n }
 {
-    if kind != 1 {
-        return 0;
+    match kind {
+        Kind::Sequential => usize::from(n).saturating_sub(1),
+        Kind::Parallel | Kind::Assign => 0,
     }
-    if n == 0 {
-        return 0;
-    }
-    usize::from(n) - 1
 }
 
 // The context among the bindings of a let.
-fn among(x: Context, kind: u8) -> Context
-    ensures { result ≡ in_zone_of (binding_zone (kind_of kind) x.zone) x }
+#[tactic(auto, unfolding(crate::specs::Read::binding_zone))]
+fn among(x: Context, kind: Kind) -> Context
+    ensures { result ≡ in_zone_of (binding_zone kind x.zone) x }
 {
-    if kind < 2 {
-        return x;
-    }
-    match x.zone {
-        Zone::Plain => Context {
+    match (kind, x.zone) {
+        (Kind::Assign, Zone::Plain) => Context {
             zone: Zone::InBinding,
             ..x
         },
-        Zone::InBinding => x,
-        Zone::InMod => x,
+        _ => x,
     }
 }
 
-// A BM is met: it is noted if it is the first in a binding body of an assign.
-fn noted(s: &[u8], x: Context, c: Scan) -> Scan
-    requires at_in_bounds { c.at ≤ length s.now }
-    ensures { Comes note x s.now c (Ok result) }
+// The record with which s starts.
+pub fn read_record(
+    s: &[u8],
+    x: Context,
+    family: Family,
+    first: Option<usize>,
+) -> Result<Scan, Refusal>
+    requires { x.mark + length s.now < 2 ^ 63 }
+    ensures { Goes (reader_of family) x (starts s.entry first) result }
 {
-    match x.zone {
-        Zone::Plain => c,
-        Zone::InMod => c,
-        Zone::InBinding => Scan {
-            first: c.first.or(Some(x.mark)),
-            ..c
-        },
-    }
-}
-
-// A Name or a Complex pattern.
-fn pattern(s: &[u8], mark: usize, c: Scan) -> Result<Scan, Refusal>
-    requires at_in_bounds { c.at ≤ length s.now }
-    requires s_bound { mark + length s.now < 2 ^ 64 }
-    ensures { Reads pattern_of mark s.now c result }
-{
-    let d = at_most(s, mark, c, 1, 2)?;
-    if s[c.at] == 0 {
-        return name(s, mark, d);
-    }
-    child_sexp(s, mark, CONS_LIMIT, d)
-}
-
-// The record at the start of s.
-#[cycle(reading)]
-pub fn read_record(s: &[u8], x: Context, family: Family, c: Scan) -> Result<Scan, Refusal>
-    requires at_value { c.at ≡ 0 }
-    requires s_bound { x.mark + length s.now < 2 ^ 63 }
-    ensures { Goes (reader_of family) x s.now c result }
-{
-    match family {
-        Family::Body => body(s, x, c),
-        Family::Binding => binding(s, x, c),
-        Family::Helper => helper(s, x, c),
-        Family::Form => form(s, x, c),
-    }
-}
-
-// A child record.
-#[cycle(reading)]
-fn child(s: &[u8], x: Context, family: Family, c: Scan) -> Result<Scan, Refusal>
-    requires at_in_bounds { c.at ≤ length s.now }
-    requires s_bound { x.mark + length s.now < 2 ^ 63 }
-    ensures { Goes (reader_of family) x s.now c result }
-{
-    let at = c.at;
-    let y = Context {
-        mark: x.mark + at,
-        ..x
-    };
-    let r = read_record(&s[at..], y, family, Scan { at: 0, ..c })?;
-    Ok(Scan { at: at + r.at, ..r })
-}
-
-// n children.
-#[cycle(reading)]
-fn times(s: &[u8], x: Context, family: Family, n: u8, c: Scan) -> Result<Scan, Refusal>
-    requires at_in_bounds { c.at ≤ length s.now }
-    requires s_bound { x.mark + length s.now < 2 ^ 63 }
-    ensures { Goes (times_of n family) x s.now c result }
-{
-    let mut d = c;
-    for _ in 0..n {
-        d = child(s, x, family, d)?;
-    }
+    let mut d = Scan { s, at: 0, first };
+    d.record(x, family)?;
     Ok(d)
 }
 
-// A count, and that many children.
-#[cycle(reading)]
-fn many(s: &[u8], x: Context, family: Family, c: Scan) -> Result<Scan, Refusal>
-    requires at_in_bounds { c.at ≤ length s.now }
-    requires s_bound { x.mark + length s.now < 2 ^ 63 }
-    ensures { Goes (many_of family) x s.now c result }
-{
-    let d = count(s, x.mark, c)?;
-    times(s, x, family, s[c.at], d)
-}
-
-// A B record.
-#[cycle(reading)]
-fn body(s: &[u8], x: Context, c: Scan) -> Result<Scan, Refusal>
-    requires at_value { c.at ≡ 0 }
-    requires s_bound { x.mark + length s.now < 2 ^ 63 }
-    ensures { Goes (reader_of Family.Body) x s.now c result }
-{
-    let d = bytes(s, x.mark, c, MARK_WIDTH)?;
-    let Some(kind) = body_mark(s) else {
-        return Err(refused(x.mark, 2));
-    };
-    if x.room == 0 {
-        return Err(refused(x.mark, 3));
-    }
-    let y = down(x, 1);
-    match kind {
-        BodyMark::Let => let_form(s, y, d),
-        BodyMark::Quoted | BodyMark::Value => child_sexp(s, x.mark, CONS_LIMIT, d),
-        BodyMark::Call => call(s, y, d),
-        BodyMark::Mod => mod_form(s, y, d),
-        BodyMark::Lambda => lambda(s, y, d),
-    }
-}
-
-// What stands after the mark of a BL.
-#[cycle(reading)]
-fn let_form(s: &[u8], x: Context, c: Scan) -> Result<Scan, Refusal>
-    requires at_in_bounds { c.at ≤ length s.now }
-    requires s_bound { x.mark + length s.now < 2 ^ 63 }
-    ensures { Goes (body_after let_after) x s.now c result }
-{
-    let d = at_most(s, x.mark, c, 2, 2)?;
-    let_after(s, x, s[c.at], d)
-}
-
-// A let after its kind byte.
-#[cycle(reading)]
-fn let_after(s: &[u8], x: Context, kind: u8, c: Scan) -> Result<Scan, Refusal>
-    requires at_in_bounds { c.at ≤ length s.now }
-    requires s_bound { x.mark + length s.now < 2 ^ 63 }
-    ensures { Goes (let_of_kind kind) x s.now c result }
-{
-    let d = hint(s, x.mark, keyword(s, x.mark, loc(s, x.mark, c)?)?)?;
-    let e = count(s, x.mark, d)?;
-    let n = s[d.at];
-    let more = more_levels(kind, n);
-    if x.room < more {
-        return Err(refused(x.mark, 3));
-    }
-    let y = down(x, more);
-    let b = times(s, among(y, kind), Family::Binding, n, e)?;
-    child(s, y, Family::Body, b)
-}
-
-// What stands after the mark of a BC.
-#[cycle(reading)]
-fn call(s: &[u8], x: Context, c: Scan) -> Result<Scan, Refusal>
-    requires at_in_bounds { c.at ≤ length s.now }
-    requires s_bound { x.mark + length s.now < 2 ^ 63 }
-    ensures { Goes (body_after call_after) x s.now c result }
-{
-    let e = many(s, x, Family::Body, loc(s, x.mark, c)?)?;
-    tail(s, x, e)
-}
-
-// The tail of a call.
-#[cycle(reading)]
-fn tail(s: &[u8], x: Context, c: Scan) -> Result<Scan, Refusal>
-    requires at_in_bounds { c.at ≤ length s.now }
-    requires s_bound { x.mark + length s.now < 2 ^ 63 }
-    ensures { Goes tail_of x s.now c result }
-{
-    let d = at_most(s, x.mark, c, 1, 2)?;
-    if s[c.at] == 0 {
-        return Ok(d);
-    }
-    child(s, x, Family::Body, d)
-}
-
-// What stands after the mark of a BM.
-#[cycle(reading)]
-fn mod_form(s: &[u8], x: Context, c: Scan) -> Result<Scan, Refusal>
-    requires at_in_bounds { c.at ≤ length s.now }
-    requires s_bound { x.mark + length s.now < 2 ^ 63 }
-    ensures { Goes (body_after mod_after) x s.now c result }
-{
-    let d = loc(s, x.mark, noted(s, x, c))?;
-    let y = Context {
-        zone: Zone::InMod,
-        ..x
-    };
-    child(s, y, Family::Form, d)
-}
-
-// What stands after the mark of a BF.
-#[cycle(reading)]
-fn lambda(s: &[u8], x: Context, c: Scan) -> Result<Scan, Refusal>
-    requires at_in_bounds { c.at ≤ length s.now }
-    requires s_bound { x.mark + length s.now < 2 ^ 63 }
-    ensures { Goes (body_after lambda_within) x s.now c result }
-{
-    if x.lambdas == 0 {
-        return Err(refused(x.mark, 3));
-    }
-    let y = Context {
-        lambdas: x.lambdas - 1,
-        ..x
-    };
-    let k = keyword(s, x.mark, loc(s, x.mark, c)?)?;
-    let d = child_sexp(s, x.mark, CONS_LIMIT, k)?;
-    let e = child(s, y, Family::Body, d)?;
-    let f = child_sexp(s, x.mark, CONS_LIMIT, e)?;
-    child(s, y, Family::Body, f)
-}
-
-// A BB.
-#[cycle(reading)]
-fn binding(s: &[u8], x: Context, c: Scan) -> Result<Scan, Refusal>
-    requires at_value { c.at ≡ 0 }
-    requires s_bound { x.mark + length s.now < 2 ^ 63 }
-    ensures { Goes (reader_of Family.Binding) x s.now c result }
-{
-    let d = bytes(s, x.mark, c, MARK_WIDTH)?;
-    if !is_word(s, 0, b"BB") {
-        return Err(refused(x.mark, 2));
-    }
-    let e = loc(s, x.mark, loc(s, x.mark, d)?)?;
-    let p = pattern(s, x.mark, e)?;
-    child(s, x, Family::Body, p)
-}
-
-// An H record.
-#[cycle(reading)]
-fn helper(s: &[u8], x: Context, c: Scan) -> Result<Scan, Refusal>
-    requires at_value { c.at ≡ 0 }
-    requires s_bound { x.mark + length s.now < 2 ^ 63 }
-    ensures { Goes (reader_of Family.Helper) x s.now c result }
-{
-    let d = bytes(s, x.mark, c, MARK_WIDTH)?;
-    let Some(kind) = helper_mark(s) else {
-        return Err(refused(x.mark, 2));
-    };
-    if x.room == 0 {
-        return Err(refused(x.mark, 3));
-    }
-    let y = down(x, 1);
-    match kind {
-        HelperMark::Constant => constant(s, y, d),
-        HelperMark::Macro => macro_form(s, y, d),
-        HelperMark::Function => function(s, y, d),
-        HelperMark::Namespace => namespace(s, y, d),
-        HelperMark::Reference => reference(s, x.mark, d),
-    }
-}
-
-// What stands after the mark of an HR.
-fn reference(s: &[u8], mark: usize, c: Scan) -> Result<Scan, Refusal>
-    requires { c.at ≤ length s.now }
-    ensures { Reads reference_after mark s.now c result }
-{
-    let n = name(s, mark, loc(s, mark, c)?)?;
-    raw(s, mark, n)
-}
-
-// What stands after the mark of an HC.
-#[cycle(reading)]
-fn constant(s: &[u8], x: Context, c: Scan) -> Result<Scan, Refusal>
-    requires at_in_bounds { c.at ≤ length s.now }
-    requires s_bound { x.mark + length s.now < 2 ^ 63 }
-    ensures { Goes (helper_after constant_after) x s.now c result }
-{
-    let n = name(s, x.mark, loc(s, x.mark, c)?)?;
-    child(s, x, Family::Body, raw(s, x.mark, n)?)
-}
-
-// What stands after the mark of an HM.
-#[cycle(reading)]
-fn macro_form(s: &[u8], x: Context, c: Scan) -> Result<Scan, Refusal>
-    requires at_in_bounds { c.at ≤ length s.now }
-    requires s_bound { x.mark + length s.now < 2 ^ 63 }
-    ensures { Goes (helper_after macro_after) x s.now c result }
-{
-    let n = name(s, x.mark, loc(s, x.mark, c)?)?;
-    let a = child_sexp(s, x.mark, CONS_LIMIT, raw(s, x.mark, n)?)?;
-    child(s, x, Family::Form, a)
-}
-
-// What stands after the mark of an HD.
-#[cycle(reading)]
-fn function(s: &[u8], x: Context, c: Scan) -> Result<Scan, Refusal>
-    requires at_in_bounds { c.at ≤ length s.now }
-    requires s_bound { x.mark + length s.now < 2 ^ 63 }
-    ensures { Goes (helper_after function_after) x s.now c result }
-{
-    let i = at_most(s, x.mark, loc(s, x.mark, c)?, 1, 2)?;
-    let n = name(s, x.mark, i)?;
-    let a = child_sexp(s, x.mark, CONS_LIMIT, raw(s, x.mark, n)?)?;
-    child(s, x, Family::Body, a)
-}
-
-// What stands after the mark of an HN.
-#[cycle(reading)]
-fn namespace(s: &[u8], x: Context, c: Scan) -> Result<Scan, Refusal>
-    requires at_in_bounds { c.at ≤ length s.now }
-    requires s_bound { x.mark + length s.now < 2 ^ 63 }
-    ensures { Goes (helper_after namespace_after) x s.now c result }
-{
-    let n = name(s, x.mark, loc(s, x.mark, c)?)?;
-    many(s, x, Family::Helper, raw(s, x.mark, n)?)
-}
-
-// A CF.
-#[cycle(reading)]
-fn form(s: &[u8], x: Context, c: Scan) -> Result<Scan, Refusal>
-    requires at_value { c.at ≡ 0 }
-    requires s_bound { x.mark + length s.now < 2 ^ 63 }
-    ensures { Goes (reader_of Family.Form) x s.now c result }
-{
-    let d = bytes(s, x.mark, c, MARK_WIDTH)?;
-    if !is_word(s, 0, b"CF") {
-        return Err(refused(x.mark, 2));
-    }
-    if x.room == 0 {
-        return Err(refused(x.mark, 3));
-    }
-    let y = down(x, 1);
-    let r = raw(s, x.mark, loc(s, x.mark, d)?)?;
-    let a = child_sexp(s, x.mark, CONS_LIMIT, r)?;
-    let h = many(s, y, Family::Helper, a)?;
-    child(s, y, Family::Body, h)
-}
-
 // One BL of kind 2 at the start of s.
-pub fn assign(s: &[u8], x: Context, c: Scan) -> Result<Scan, Refusal>
-    requires at_value { c.at ≡ 0 }
+pub fn assign(s: &[u8], x: Context, first: Option<usize>) -> Result<Scan, Refusal>
     requires s_bound { x.mark + length s.now < 2 ^ 63 }
     requires room_value { x.room ≡ level_limit }
-    ensures { Comes assign_of x s.now c result }
+    ensures { Comes assign_of x (starts s.entry first) result }
 {
-    let d = bytes(s, x.mark, c, MARK_WIDTH)?;
+    let mut d = Scan { s, at: 0, first };
+    d.past_mark(x.mark)?;
     if !is_word(s, 0, b"BL") {
-        return Err(refused(x.mark, 2));
+        return Err(refused(x.mark, Reason::NotOneRecord));
     }
-    let k = bytes(s, x.mark, d, 1)?;
-    if s[d.at] != 2 {
-        return Err(refused(x.mark, 2));
+    if d.byte(x.mark)? != 2 {
+        return Err(refused(x.mark, Reason::NotOneRecord));
     }
-    let_after(s, down(x, 1), 2, k)
+    d.let_after(down(x, 1), Kind::Assign)?;
+    Ok(d)
+}
+
+// B, BB, H and CF records, and what stands in them.
+impl<'a> Scan<'a> {
+    // The record with which the bytes start.
+    #[cycle(reading)]
+    fn record(&mut self, x: Context, family: Family) -> Result<(), Refusal>
+        requires { x.mark + length self.old.s.now < 2 ^ 63 }
+        ensures { self.old.at ≡ 0 → Goes (reader_of family) x (starts self.old.s self.old.first) (left_in self.new result) }
+    {
+        match family {
+            Family::Body => self.body(x),
+            Family::Binding => self.binding(x),
+            Family::Helper => self.helper(x),
+            Family::Form => self.form(x),
+        }
+    }
+
+    // A B record.
+    #[cycle(reading)]
+    fn body(&mut self, x: Context) -> Result<(), Refusal>
+        requires { x.mark + length self.old.s.now < 2 ^ 63 }
+        ensures { self.old.at ≡ 0 → Goes (reader_of Family.Body) x (starts self.old.s self.old.first) (left_in self.new result) }
+    {
+        self.past_mark(x.mark)?;
+        let Some(kind) = body_mark(self.s) else {
+            return Err(refused(x.mark, Reason::NotOneRecord));
+        };
+        if x.room == 0 {
+            return Err(refused(x.mark, Reason::PastLimit));
+        }
+        let y = down(x, 1);
+        match kind {
+            BodyMark::Let => self.let_form(y),
+            BodyMark::Quoted | BodyMark::Value => self.child_sexp(x.mark, CONS_LIMIT),
+            BodyMark::Call => self.call(y),
+            BodyMark::Mod => self.mod_form(y),
+            BodyMark::Lambda => self.lambda(y),
+        }
+    }
+
+    // A BB.
+    #[cycle(reading)]
+    fn binding(&mut self, x: Context) -> Result<(), Refusal>
+        requires { x.mark + length self.old.s.now < 2 ^ 63 }
+        ensures { self.old.at ≡ 0 → Goes (reader_of Family.Binding) x (starts self.old.s self.old.first) (left_in self.new result) }
+    {
+        self.past_mark(x.mark)?;
+        if !is_word(self.s, 0, b"BB") {
+            return Err(refused(x.mark, Reason::NotOneRecord));
+        }
+        self.loc(x.mark)?;
+        self.loc(x.mark)?;
+        self.pattern(x.mark)?;
+        self.child(x, Family::Body)
+    }
+
+    // An H record. Like `body` in form: the marks and what follows them differ.
+    #[cycle(reading)]
+    fn helper(&mut self, x: Context) -> Result<(), Refusal>
+        requires { x.mark + length self.old.s.now < 2 ^ 63 }
+        ensures { self.old.at ≡ 0 → Goes (reader_of Family.Helper) x (starts self.old.s self.old.first) (left_in self.new result) }
+    {
+        self.past_mark(x.mark)?;
+        let Some(kind) = helper_mark(self.s) else {
+            return Err(refused(x.mark, Reason::NotOneRecord));
+        };
+        if x.room == 0 {
+            return Err(refused(x.mark, Reason::PastLimit));
+        }
+        let y = down(x, 1);
+        match kind {
+            HelperMark::Constant => self.constant(y),
+            HelperMark::Macro => self.macro_form(y),
+            HelperMark::Function => self.function(y),
+            HelperMark::Namespace => self.namespace(y),
+            HelperMark::Reference => self.reference(x.mark),
+        }
+    }
+
+    // A CF.
+    #[cycle(reading)]
+    fn form(&mut self, x: Context) -> Result<(), Refusal>
+        requires { x.mark + length self.old.s.now < 2 ^ 63 }
+        ensures { self.old.at ≡ 0 → Goes (reader_of Family.Form) x (starts self.old.s self.old.first) (left_in self.new result) }
+    {
+        self.past_mark(x.mark)?;
+        if !is_word(self.s, 0, b"CF") {
+            return Err(refused(x.mark, Reason::NotOneRecord));
+        }
+        if x.room == 0 {
+            return Err(refused(x.mark, Reason::PastLimit));
+        }
+        let y = down(x, 1);
+        self.loc(x.mark)?;
+        self.raw(x.mark)?;
+        self.child_sexp(x.mark, CONS_LIMIT)?;
+        self.many(y, Family::Helper)?;
+        self.child(y, Family::Body)
+    }
+
+    // A child record.
+    #[cycle(reading)]
+    fn child(&mut self, x: Context, family: Family) -> Result<(), Refusal>
+        requires { x.mark + length self.old.s.now < 2 ^ 63 }
+        ensures { Goes (reader_of family) x self.old (left_in self.new result) }
+    {
+        let y = Context {
+            mark: x.mark + self.at,
+            ..x
+        };
+        let mut d = Scan {
+            s: &self.s[self.at..],
+            at: 0,
+            first: self.first,
+        };
+        d.record(y, family)?;
+        self.at += d.at;
+        self.first = d.first;
+        Ok(())
+    }
+
+    // n children.
+    #[cycle(reading)]
+    fn times(&mut self, x: Context, family: Family, n: u8) -> Result<(), Refusal>
+        requires { x.mark + length self.old.s.now < 2 ^ 63 }
+        ensures { Goes (times_of n family) x self.old (left_in self.new result) }
+    {
+        for _ in 0..n {
+            self.child(x, family)?;
+        }
+        Ok(())
+    }
+
+    // A count, and that many children.
+    #[cycle(reading)]
+    fn many(&mut self, x: Context, family: Family) -> Result<(), Refusal>
+        requires { x.mark + length self.old.s.now < 2 ^ 63 }
+        ensures { Goes (many_of family) x self.old (left_in self.new result) }
+    {
+        let n = self.count(x.mark)?;
+        self.times(x, family, n)
+    }
+
+    // A Name or a Complex pattern.
+    fn pattern(&mut self, mark: usize) -> Result<(), Refusal>
+        requires { mark + length self.old.s.now < 2 ^ 64 }
+        ensures { Reads pattern_of mark self.old (left_in self.new result) }
+    {
+        if self.at_most(mark, 1, Reason::NotOneRecord)? == 0 {
+            return self.name(mark);
+        }
+        self.child_sexp(mark, CONS_LIMIT)
+    }
+
+    // What stands after the mark of a BL.
+    #[cycle(reading)]
+    fn let_form(&mut self, x: Context) -> Result<(), Refusal>
+        requires { x.mark + length self.old.s.now < 2 ^ 63 }
+        ensures { Goes (body_after let_after) x self.old (left_in self.new result) }
+    {
+        let byte = self.at_most(x.mark, 2, Reason::NotOneRecord)?;
+        self.let_after(x, Kind::from(byte))
+    }
+
+    // A let after its kind byte.
+    #[cycle(reading)]
+    fn let_after(&mut self, x: Context, kind: Kind) -> Result<(), Refusal>
+        requires { x.mark + length self.old.s.now < 2 ^ 63 }
+        ensures { Goes (let_of_kind kind) x self.old (left_in self.new result) }
+    {
+        self.loc(x.mark)?;
+        self.keyword(x.mark)?;
+        self.hint(x.mark)?;
+        let n = self.count(x.mark)?;
+        let more = more_levels(kind, n);
+        if x.room < more {
+            return Err(refused(x.mark, Reason::PastLimit));
+        }
+        let y = down(x, more);
+        self.times(among(y, kind), Family::Binding, n)?;
+        self.child(y, Family::Body)
+    }
+
+    // What stands after the mark of a BC.
+    #[cycle(reading)]
+    fn call(&mut self, x: Context) -> Result<(), Refusal>
+        requires { x.mark + length self.old.s.now < 2 ^ 63 }
+        ensures { Goes (body_after call_after) x self.old (left_in self.new result) }
+    {
+        self.loc(x.mark)?;
+        self.many(x, Family::Body)?;
+        self.tail(x)
+    }
+
+    // The tail of a call.
+    #[cycle(reading)]
+    fn tail(&mut self, x: Context) -> Result<(), Refusal>
+        requires { x.mark + length self.old.s.now < 2 ^ 63 }
+        ensures { Goes tail_of x self.old (left_in self.new result) }
+    {
+        if self.at_most(x.mark, 1, Reason::NotOneRecord)? == 0 {
+            return Ok(());
+        }
+        self.child(x, Family::Body)
+    }
+
+    // What stands after the mark of a BM.
+    #[cycle(reading)]
+    fn mod_form(&mut self, x: Context) -> Result<(), Refusal>
+        requires { x.mark + length self.old.s.now < 2 ^ 63 }
+        ensures { Goes (body_after mod_after) x self.old (left_in self.new result) }
+    {
+        let y = Context {
+            zone: Zone::InMod,
+            ..x
+        };
+        self.note(x);
+        self.loc(x.mark)?;
+        self.child(y, Family::Form)
+    }
+
+    // A BM is met: it is noted if it is the first in a binding body of an assign.
+    fn note(&mut self, x: Context)
+        ensures { Comes note x self.old (Ok self.new) }
+    {
+        if let Zone::InBinding = x.zone {
+            self.first = self.first.or(Some(x.mark));
+        }
+    }
+
+    // What stands after the mark of a BF.
+    #[cycle(reading)]
+    fn lambda(&mut self, x: Context) -> Result<(), Refusal>
+        requires { x.mark + length self.old.s.now < 2 ^ 63 }
+        ensures { Goes (body_after lambda_within) x self.old (left_in self.new result) }
+    {
+        if x.lambdas == 0 {
+            return Err(refused(x.mark, Reason::PastLimit));
+        }
+        let y = Context {
+            lambdas: x.lambdas - 1,
+            ..x
+        };
+        self.loc(x.mark)?;
+        self.keyword(x.mark)?;
+        self.child_sexp(x.mark, CONS_LIMIT)?;
+        self.child(y, Family::Body)?;
+        self.child_sexp(x.mark, CONS_LIMIT)?;
+        self.child(y, Family::Body)
+    }
+
+    // What stands after the mark of an HR.
+    fn reference(&mut self, mark: usize) -> Result<(), Refusal>
+        ensures { Reads reference_after mark self.old (left_in self.new result) }
+    {
+        self.loc(mark)?;
+        self.name(mark)?;
+        self.raw(mark)
+    }
+
+    // What stands after the mark of an HC.
+    #[cycle(reading)]
+    fn constant(&mut self, x: Context) -> Result<(), Refusal>
+        requires { x.mark + length self.old.s.now < 2 ^ 63 }
+        ensures { Goes (helper_after constant_after) x self.old (left_in self.new result) }
+    {
+        self.loc(x.mark)?;
+        self.name(x.mark)?;
+        self.raw(x.mark)?;
+        self.child(x, Family::Body)
+    }
+
+    // What stands after the mark of an HM.
+    #[cycle(reading)]
+    fn macro_form(&mut self, x: Context) -> Result<(), Refusal>
+        requires { x.mark + length self.old.s.now < 2 ^ 63 }
+        ensures { Goes (helper_after macro_after) x self.old (left_in self.new result) }
+    {
+        self.loc(x.mark)?;
+        self.name(x.mark)?;
+        self.raw(x.mark)?;
+        self.child_sexp(x.mark, CONS_LIMIT)?;
+        self.child(x, Family::Form)
+    }
+
+    // What stands after the mark of an HD.
+    #[cycle(reading)]
+    fn function(&mut self, x: Context) -> Result<(), Refusal>
+        requires { x.mark + length self.old.s.now < 2 ^ 63 }
+        ensures { Goes (helper_after function_after) x self.old (left_in self.new result) }
+    {
+        self.loc(x.mark)?;
+        self.at_most(x.mark, 1, Reason::NotOneRecord)?;
+        self.name(x.mark)?;
+        self.raw(x.mark)?;
+        self.child_sexp(x.mark, CONS_LIMIT)?;
+        self.child(x, Family::Body)
+    }
+
+    // What stands after the mark of an HN.
+    #[cycle(reading)]
+    fn namespace(&mut self, x: Context) -> Result<(), Refusal>
+        requires { x.mark + length self.old.s.now < 2 ^ 63 }
+        ensures { Goes (helper_after namespace_after) x self.old (left_in self.new result) }
+    {
+        self.loc(x.mark)?;
+        self.name(x.mark)?;
+        self.raw(x.mark)?;
+        self.many(x, Family::Helper)
+    }
 }

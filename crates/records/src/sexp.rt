@@ -1,78 +1,86 @@
 // S records.
-ghost use Rattle.std.specs.Prelude.{◌≡◌, ◌+◌, ◌^◌, ◌≤◌, ◌<◌, length, take, drop};
+ghost use Rattle.std.specs.Prelude.{◌≡◌, ◌+◌, ◌^◌, ◌<◌, length, take};
 ghost use Rattle.records.specs.Records.{mark_width};
 ghost use Rattle.records.specs.Read.{cons_rule, sexp_at};
-ghost use Rattle.records.specs.Scan.{Reads, mark_index, sexp_marks, sexp_mark_at};
+ghost use Rattle.records.specs.Scan.{Reads, starts, left_in, sexp_mark_of};
 
-use crate::fields::{bytes, integer, loc, name, refused};
-use crate::{MARK_WIDTH, Scan, SexpMark};
-use names::Refusal;
-use names::bytes::is_word;
+use crate::fields::refused;
+use crate::{Scan, SexpMark};
+use names::{Reason, Refusal};
 
 // Which mark of an S record stands at the start of s, if any.
+#[tactic(auto, unfolding(crate::specs::Scan::mark_index, names::specs::Names::same, names::specs::Names::ascii))]
 pub fn sexp_mark(s: &[u8]) -> Option<SexpMark>
-    ensures { result ≡ sexp_mark_at (mark_index (take mark_width (drop 0 s.now)) sexp_marks) }
+    ensures { result ≡ sexp_mark_of (take mark_width s.now) }
 {
-    if is_word(s, 0, b"SA") {
-        return Some(SexpMark::Atom);
+    match s {
+        [b'S', b'A', ..] => Some(SexpMark::Atom),
+        [b'S', b'C', ..] => Some(SexpMark::Pair),
+        [b'S', b'N', ..] => Some(SexpMark::Nil),
+        [b'S', b'I', ..] => Some(SexpMark::Integer),
+        [b'S', b'Q', ..] => Some(SexpMark::Text),
+        _ => None,
     }
-    if is_word(s, 0, b"SC") {
-        return Some(SexpMark::Pair);
-    }
-    if is_word(s, 0, b"SN") {
-        return Some(SexpMark::Nil);
-    }
-    if is_word(s, 0, b"SI") {
-        return Some(SexpMark::Integer);
-    }
-    if is_word(s, 0, b"SQ") {
-        return Some(SexpMark::Text);
-    }
-    None
 }
 
-// The S record at the start of s, at most `depth` SC deep.
-#[cycle(sexps)]
-pub fn sexp(s: &[u8], mark: usize, depth: usize, c: Scan) -> Result<Scan, Refusal>
-    requires at_value { c.at ≡ 0 }
-    requires s_bound { mark + length s.now < 2 ^ 64 }
-    ensures { Reads (sexp_at depth) mark s.now c result }
-{
-    let d = bytes(s, mark, c, MARK_WIDTH)?;
-    match sexp_mark(s) {
-        Some(SexpMark::Nil) => loc(s, mark, d),
-        Some(SexpMark::Pair) => {
-            if depth == 0 {
-                return Err(refused(mark, 3));
+// S records, and what stands in them.
+impl<'a> Scan<'a> {
+    // The S record with which the bytes start, at most `depth` SC deep.
+    #[cycle(sexps)]
+    pub fn sexp(&mut self, mark: usize, depth: usize) -> Result<(), Refusal>
+        requires { mark + length self.old.s.now < 2 ^ 64 }
+        ensures { self.old.at ≡ 0 → Reads (sexp_at depth) mark (starts self.old.s self.old.first) (left_in self.new result) }
+    {
+        self.past_mark(mark)?;
+        match sexp_mark(self.s) {
+            Some(SexpMark::Nil) => self.loc(mark),
+            Some(SexpMark::Pair) => {
+                if depth == 0 {
+                    return Err(refused(mark, Reason::PastLimit));
+                }
+                self.pair(mark, depth - 1)
             }
-            pair(s, mark, depth - 1, d)
+            Some(SexpMark::Integer) => {
+                self.loc(mark)?;
+                self.integer(mark)
+            }
+            Some(SexpMark::Text) => {
+                self.loc(mark)?;
+                self.byte(mark)?;
+                self.name(mark)
+            }
+            Some(SexpMark::Atom) => {
+                self.loc(mark)?;
+                self.name(mark)
+            }
+            None => Err(refused(mark, Reason::NotOneRecord)),
         }
-        Some(SexpMark::Integer) => integer(s, mark, loc(s, mark, d)?),
-        Some(SexpMark::Text) => name(s, mark, bytes(s, mark, loc(s, mark, d)?, 1)?),
-        Some(SexpMark::Atom) => name(s, mark, loc(s, mark, d)?),
-        None => Err(refused(mark, 2)),
     }
-}
 
-// What stands after the mark of an SC.
-#[cycle(sexps)]
-fn pair(s: &[u8], mark: usize, depth: usize, c: Scan) -> Result<Scan, Refusal>
-    requires at_in_bounds { c.at ≤ length s.now }
-    requires s_bound { mark + length s.now < 2 ^ 64 }
-    ensures { Reads (cons_rule (sexp_at depth)) mark s.now c result }
-{
-    let h = child_sexp(s, mark, depth, loc(s, mark, c)?)?;
-    child_sexp(s, mark, depth, h)
-}
+    // What stands after the mark of an SC.
+    #[cycle(sexps)]
+    fn pair(&mut self, mark: usize, depth: usize) -> Result<(), Refusal>
+        requires { mark + length self.old.s.now < 2 ^ 64 }
+        ensures { Reads (cons_rule (sexp_at depth)) mark self.old (left_in self.new result) }
+    {
+        self.loc(mark)?;
+        self.child_sexp(mark, depth)?;
+        self.child_sexp(mark, depth)
+    }
 
-// A child S record.
-#[cycle(sexps)]
-pub fn child_sexp(s: &[u8], mark: usize, depth: usize, c: Scan) -> Result<Scan, Refusal>
-    requires at_in_bounds { c.at ≤ length s.now }
-    requires s_bound { mark + length s.now < 2 ^ 64 }
-    ensures { Reads (sexp_at depth) mark s.now c result }
-{
-    let at = c.at;
-    let r = sexp(&s[at..], mark + at, depth, Scan { at: 0, ..c })?;
-    Ok(Scan { at: at + r.at, ..r })
+    // A child S record. It notes no BM.
+    #[cycle(sexps)]
+    pub fn child_sexp(&mut self, mark: usize, depth: usize) -> Result<(), Refusal>
+        requires { mark + length self.old.s.now < 2 ^ 64 }
+        ensures { Reads (sexp_at depth) mark self.old (left_in self.new result) }
+    {
+        let mut d = Scan {
+            s: &self.s[self.at..],
+            at: 0,
+            first: self.first,
+        };
+        d.sexp(mark + self.at, depth)?;
+        self.at += d.at;
+        Ok(())
+    }
 }

@@ -1,4 +1,6 @@
-// The length of the record that bytes start with, and where the next one starts.
+// The length of the record that bytes start with, and where the next one starts. Each family has its own
+// match: a table of fields, as `outline` has it, would have to be interpreted. That a mark is there is
+// tested once, in `skip`; a type that says so would be made for four private functions.
 ghost use Rattle.std.specs.Prelude.{◌≤◌, length};
 ghost use Rattle.records.specs.Records.{mark_width};
 ghost use Rattle.records.specs.Parts.{family_part, fields_part, sexp_part, list_part, many_part, tail_part, named_part, Skips, Past};

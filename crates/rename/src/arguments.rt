@@ -14,6 +14,11 @@ fn number(rt: &impl Env, err: &impl Print, i: usize, which: &[u8]) -> Option<u64
     counter::argument(err, which, argument(rt, i, &mut digits))
 }
 
+// The F that an argument gives. Rust has no From between u64 and usize.
+fn longest(rt: &impl Env, err: &impl Print, i: usize) -> Option<usize> {
+    number(rt, err, i, b"F").map(|f| f as usize)
+}
+
 // `rename name NAME COUNTER`. A NAME that its buffer cannot hold is cut: it is too long for a made name
 // either way.
 pub fn name(rt: &(impl Env + Print), err: &impl Print) -> io::Result<()> {
@@ -39,11 +44,11 @@ pub fn check(rt: &(impl Env + Files + Print), err: &impl Print) -> io::Result<()
     let Some(wanted) = kind::argument(err, argument(rt, 2, &mut word)) else {
         return Ok(());
     };
-    let Some(f) = number(rt, err, 4, b"F") else {
+    let Some(f) = longest(rt, err, 4) else {
         return Ok(());
     };
     let mut path = [0u8; ARGUMENT];
-    commands::check::check(rt, err, wanted, argument(rt, 3, &mut path), f as usize)
+    commands::check::check(rt, err, wanted, argument(rt, 3, &mut path), f)
 }
 
 // `rename order FILE F` and `rename page FILE F`.
@@ -51,8 +56,8 @@ pub fn of_file(rt: &(impl Env + Files + Print), err: &impl Print, asked: Asked) 
     if count(rt) != 4 {
         return usage::print(err);
     }
-    match number(rt, err, 3, b"F") {
-        Some(f) => task::run(rt, err, asked, f as usize, 0),
+    match longest(rt, err, 3) {
+        Some(f) => task::run(rt, err, asked, f, 0),
         None => Ok(()),
     }
 }
@@ -62,11 +67,11 @@ pub fn renaming(rt: &(impl Env + Files + Print), err: &impl Print, call: Call) -
     if count(rt) != 6 {
         return usage::print(err);
     }
-    let Some(f) = number(rt, err, 3, b"F") else {
+    let Some(f) = longest(rt, err, 3) else {
         return Ok(());
     };
     match number(rt, err, 4, b"COUNTER") {
-        Some(counter) => task::run(rt, err, Asked::Renaming(call), f as usize, counter),
+        Some(counter) => task::run(rt, err, Asked::Renaming(call), f, counter),
         None => Ok(()),
     }
 }

@@ -1,6 +1,6 @@
 // `rename whole|children|helper FILE F COUNTER OUT`: the calls that rename a record.
 use crate::given::{ARGUMENT, argument};
-use commands::{MOST_READ, WORK, file, refusal, say};
+use commands::{WORK, file, refusal, say};
 use names::{Answer, MAX_COUNTER};
 use records::MOST_LONGEST;
 use std::env::Env;
@@ -26,11 +26,9 @@ pub fn read(
     counter: u64,
     work: &mut [u8; WORK],
 ) -> io::Result<()> {
-    let mut input = [0u8; MOST_READ];
-    match file::read(rt, err, path, &mut input) {
-        Some(s) => rename(rt, err, call, s, f, counter, work),
-        None => Ok(()),
-    }
+    file::with(rt, err, path, |s| {
+        rename(rt, err, call, s, f, counter, work)
+    })
 }
 
 // Writes bytes to OUT, and answers whether they were written.
@@ -51,13 +49,15 @@ fn rename(
 ) -> io::Result<()> {
     let mut renamed = [0u8; MOST_LONGEST];
     let a = answer(call, f, work, counter, s, &mut renamed);
-    let len = a.len;
-    let refusal = a.refusal;
-    if refusal.number != 0 {
-        refusal::print(err, refusal, counter > MAX_COUNTER, s.len() > f)?;
-    } else if len <= MOST_LONGEST && write(rt, err, &renamed[..len])? {
+    if let Some(refusal) = a.refusal {
+        return refusal::print(err, refusal, counter > MAX_COUNTER, s.len() > f);
+    }
+    let Some(record) = renamed.get(..a.len) else {
+        return Ok(());
+    };
+    if write(rt, err, record)? {
         say::text(rt, b"length ")?;
-        say::number(rt, len as u64)?;
+        say::number(rt, a.len)?;
         say::text(rt, b"\ncounter ")?;
         say::number(rt, a.counter)?;
         say::text(rt, b"\n")?;

@@ -1,35 +1,17 @@
--- Memory that holds wanted bytes, and a result that is that of a case. Assumes nothing.
-use mathlib.Core.Bool.{Bool, false}
+-- A result that is that of a case. Assumes nothing.
+use mathlib.Core.Bool.{Bool}
 use mathlib.Core.List.{◌++◌}
-use mathlib.Core.Path.{◌≡◌, refl, sym, ap, ◌∙◌}
-use native.Mathlib.Omega.{arith}
+use mathlib.Core.Path.{◌≡◌, sym, ap, ◌∙◌}
 use Prim.Native.Nat.{ℕ, ◌-◌, ◌≤◌}
-use lib.ListN.{length, take, drop, length-append, length-replicate}
+use lib.ListN.{length, take, drop, length-replicate}
 use lib.Seq.{take_at, drop_at}
 use Rattle.std.proofs.lemmas.List.{drop-replicate, take-replicate}
-use Rattle.names.specs.CallAnswer.{written}
 use Rattle.names.specs.Names.{Bytes}
 use Rattle.names.specs.declared.Answer.{Answer}
-use Rattle.replays.proofs.Deciding.{decides_as, decides_no}
+use Rattle.replays.proofs.Deciding.{decides_as}
 use Rattle.replays.specs.Judging.{Decides, filling}
 use Rattle.replay_calls.specs.declared.calls.Case.{Case}
 use Rattle.replay_calls.specs.CallCases.{CallAgrees, due_result, called}
-
--- memory that does not begin with the wanted bytes
-pub holds_not : (mem wanted : Bytes) → ((rest : Bytes) → mem ≡ wanted ++ rest → ⊥) → Decides false (mem ≡ written wanted (filling (length mem)))
-unfolding written
-holds_not mem wanted h = decides_no (h _)
-
--- and memory that does: what a test of the rest decides
-pub holds_rest : (mem wanted rest : Bytes) {t : Bool} → mem ≡ wanted ++ rest → Decides t (rest ≡ filling (length rest)) → Decides t (mem ≡ written wanted (filling (length mem)))
-unfolding written
-holds_rest mem wanted rest e d =
-    let n : length mem - length wanted ≡ length rest = omega (arith, simp length-append at (ap length e)) in
-    let behind : drop (length wanted) (filling (length mem)) ≡ filling (length rest) = drop-replicate (length wanted) (length mem) 7 ∙ ap filling n in
-    decides_as
-    (λ h. e ∙ ap (λ (l : Bytes). wanted ++ l) (h ∙ sym behind))
-    (λ h. sym (drop_at wanted rest _ refl) ∙ ap (drop (length wanted)) (sym e ∙ h) ∙ drop_at wanted _ _ refl ∙ behind)
-    d
 
 -- A test of the answer and of all memory, of which the call had the first n bytes, decides of the case's result: what stands behind them did not change.
 module _ (c : Case) (work : ℕ) (input wanted : Bytes) (m n : ℕ) {mem out : Bytes} {a : Answer} (le : n ≤ m) (fill : mem ≡ filling m)

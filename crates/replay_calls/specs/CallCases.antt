@@ -1,10 +1,11 @@
 -- When the calls Whole form, Children only and Single helper answer a case as they must. Assumes nothing.
 use Rattle.std.specs.Prelude.{◌≡◌, ℕ, zero, suc, ◌≤◌, Option, Some, None, length, take, drop}
+use Rattle.std.specs.Result.{result_err}
 use Rattle.names.specs.CallAnswer.{CallResult, written}
 use Rattle.names.specs.Names.{Bytes}
-use Rattle.names.specs.Refusals.{place_at, refusing}
 use Rattle.names.specs.declared.Answer.{Answer}
-use Rattle.replays.specs.Judging.{filling, head_field}
+use Rattle.replays.specs.Judging.{filling, head_byte, head_field}
+use Rattle.replays.specs.Told.{told, ◌>>=◌}
 use Rattle.replay_calls.specs.declared.calls.Call.{Call}
 use Rattle.replay_calls.specs.declared.calls.Call.TheVariants.{WholeForm, ChildrenOnly, SingleHelper}
 use Rattle.replay_calls.specs.declared.calls.Case.{Case}
@@ -49,14 +50,11 @@ AgreesIn c work input wanted mem n = (n ≤ length mem) × CallAgrees c (length 
 
 -- The head of a case: the call, the number, F, the length of work memory, the counter, the counter after the call, the place and the length of the
 -- result buffer, 1, 1, 4, 4, 8, 8, 8 and 2 bytes.
-abbrev pub case_from : Call → Bytes → Case
-case_from call head = record {
-  call = call;
-  f = head_field head 2 4;
-  counter = head_field head 10 8;
-  refusal = refusing (head_field head 1 1) (place_at (head_field head 26 8));
-  after = head_field head 18 8;
-}
+abbrev pub case_from : Bytes → Option Case
+case_from head = do
+  call ← call_of (head_byte head 0)
+  due ← told (head_byte head 1) (head_field head 26 8)
+  Some (record { call = call; f = head_field head 2 4; counter = head_field head 10 8; refusal = result_err due; after = head_field head 18 8 })
 
 abbrev pub work_of : Bytes → ℕ
 work_of head = head_field head 6 4
@@ -64,8 +62,8 @@ work_of head = head_field head 6 4
 abbrev pub buffer_of : Bytes → ℕ
 buffer_of head = head_field head 34 2
 
--- the case of a head, of the call of its number and with so much work memory, is answered as it must be; in `parts` the wanted bytes stand behind the input
+-- the case of a head, with so much work memory, is answered as it must be; in `parts` the wanted bytes stand behind the input
 abbrev pub HeadAgrees : Bytes → ℕ → Bytes → ℕ → Type 0
 HeadAgrees head work parts result =
-    (call : Call) × (call_of (head_field head 0 1) ≡ Some call)
-    × CallAgrees (case_from call head) work (take result parts) (drop result parts) (buffer_of head)
+    (c : Case) × (case_from head ≡ Some c)
+    × CallAgrees c work (take result parts) (drop result parts) (buffer_of head)

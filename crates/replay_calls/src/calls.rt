@@ -1,11 +1,10 @@
 // The one place that knows the calls Whole form, Children only and Single helper.
 ghost use Rattle.std.specs.Prelude.{◌≡◌, ◌≤◌, length};
-ghost use Rattle.names.specs.CallAnswer.{written};
-ghost use Rattle.replays.specs.Judging.{Decides, filling};
+ghost use Rattle.replays.specs.Judging.{Decides};
 ghost use Rattle.replay_calls.specs.CallCases.{answer_to, call_of, due_answer, ResultIn, AgreesIn};
 
 use names::{Answer, Refusal};
-use replays::{fill, untouched};
+use replays::{fill, holds, untouched};
 use walk::call::{children_only, single_helper, whole_form};
 
 // The calls.
@@ -22,7 +21,7 @@ pub struct Case {
     pub call: Call,
     pub f: usize,
     pub counter: u64,
-    pub refusal: Refusal,
+    pub refusal: Option<Refusal>,
     pub after: u64,
 }
 
@@ -49,20 +48,15 @@ fn answer(c: Case, work: &mut [u8], input: &[u8], res: &mut [u8]) -> Answer
     }
 }
 
-// Whether an answer is that of the case, with so many bytes written.
-fn same_answer(c: Case, a: Answer, len: usize) -> bool
-    ensures { Decides result (a ≡ due_answer c len) }
+// The answer that a case must get, with so many bytes written.
+fn due_answer(c: Case, len: usize) -> Answer
+    ensures { result ≡ due_answer c len }
 {
-    a.refusal == c.refusal && a.counter == c.after && a.rounds == 0 && a.len == len
-}
-
-// Whether the wanted bytes stand at the front of memory, and behind them what it was filled with.
-fn holds(mem: &[u8], wanted: &[u8]) -> bool
-    ensures { Decides result (mem.now ≡ written wanted.now (filling (length mem.now))) }
-{
-    match mem.strip_prefix(wanted) {
-        Some(rest) => untouched(rest),
-        None => false,
+    Answer {
+        refusal: c.refusal,
+        counter: c.after,
+        rounds: 0,
+        len,
     }
 }
 
@@ -72,7 +66,7 @@ fn same_result(c: Case, a: Answer, mem: &[u8], buffer: usize, wanted: &[u8]) -> 
     requires { buffer ≤ length mem.now }
     ensures { Decides result (ResultIn c a mem.now buffer wanted.now) }
 {
-    same_answer(c, a, wanted.len()) && holds(&mem[..buffer], wanted) && untouched(&mem[buffer..])
+    a == due_answer(c, wanted.len()) && holds(&mem[..buffer], wanted) && untouched(&mem[buffer..])
 }
 
 // Whether a case is answered as it must be, with the first bytes of memory as the result buffer.

@@ -12,19 +12,16 @@ ghost use Rattle.std.specs.Prelude.{◌≡◌, ◌≤◌, length};
 ghost use Rattle.replays.specs.declared.Verdict.TheVariants.{Agrees};
 ghost use Rattle.replay_calls.specs.CallCases.{case_from, work_of, HeadAgrees};
 
-use calls::{Call, Case, agrees, call_of};
+use calls::{Case, agrees, call_of};
 use names::bytes::number;
-use names::refusals::{place_at, refusing};
 use records::{MOST_LONGEST, WORK_FACTOR};
-use replays::{Verdict, read_part, replay};
+use replays::told::told;
+use replays::{LONGEST, Verdict, read_part, replay};
 use std::io;
 use std::io::Read;
 
 // The bytes of a case before its input and result.
 const HEAD: usize = 40;
-
-// The most bytes that a length of two bytes can announce.
-const LONGEST: usize = 65535;
 
 // The most bytes of an input and a result.
 const PARTS: usize = 2 * LONGEST;
@@ -38,20 +35,18 @@ const MEMORY: usize = LONGEST + BEHIND;
 // Work memory for every F, and for some that are too long.
 const WORK: usize = WORK_FACTOR * (MOST_LONGEST + 16);
 
-// What a case of a call gives and must get.
-fn case_of(call: Call, head: &[u8; HEAD]) -> Case
-    ensures { result ≡ case_from call head.now }
+// What a case gives and must get: none where its call or its refusal has no such number. Rust has no
+// From between usize and u64.
+fn case_of(head: &[u8; HEAD]) -> Option<Case>
+    ensures { result ≡ case_from head.now }
 {
-    Case {
-        call,
+    Some(Case {
+        call: call_of(head[0])?,
         f: number(head, 2, 4),
         counter: number(head, 10, 8) as u64,
-        refusal: refusing(
-            number(head, 1, 1) as u32,
-            place_at(number(head, 26, 8) as u64),
-        ),
+        refusal: told(head[1], number(head, 26, 8) as u64)?.err(),
         after: number(head, 18, 8) as u64,
-    }
+    })
 }
 
 // Has the call answer a case, whose result stands behind the input from this place on.
@@ -59,12 +54,14 @@ fn judged(head: &[u8; HEAD], work: &mut [u8], mem: &mut [u8], parts: &[u8], res:
     requires { res ≤ length parts.now }
     ensures { result ≡ Agrees → HeadAgrees head.now (length work.old) parts.now res }
 {
-    let Some(call) = call_of(number(head, 0, 1) as u8) else {
+    if call_of(head[0]).is_none() {
         return Verdict::Broken;
+    }
+    let Some(c) = case_of(head) else {
+        return Verdict::Differs;
     };
     let buffer = number(head, 34, 2);
-    let input = &parts[..res];
-    replays::judged(agrees(case_of(call, head), work, input, &parts[res..], mem, buffer))
+    replays::judged(agrees(c, work, &parts[..res], &parts[res..], mem, buffer))
 }
 
 // Lends as much memory as a case asks for, and has the call answer it.
@@ -92,9 +89,7 @@ fn rest(
     buf: &mut [u8],
 ) -> io::Result<Verdict> {
     let result = number(head, 36, 2);
-    let Some(parts) = read_part(stdin, buf, result + number(head, 38, 2))? else {
-        return Ok(Verdict::CutOff);
-    };
+    let parts = read_part(stdin, buf, result + number(head, 38, 2))?;
     Ok(lends(head, work, mem, parts, result))
 }
 

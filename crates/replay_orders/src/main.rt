@@ -3,7 +3,8 @@
 //
 // A case is F, the counter, the length of the result buffer, the number, the place, the rounds, how
 // many bytes are written and the length of the input (2, 8, 1, 1, 4, 1, 1 and 2 bytes, big-endian);
-// then the bytes written, and then the input.
+// then the bytes written, and then the input. `replay_pages` is alike in form: what is the same stands in
+// `replays`, and cases, places and the call differ.
 #![tactic(auto)]
 
 mod order;
@@ -13,11 +14,11 @@ ghost use Rattle.replays.specs.declared.Verdict.TheVariants.{Agrees};
 ghost use Rattle.replay_orders.specs.Orders.{case_from, HeadAgrees};
 
 use names::bytes::number;
-use names::refusals::{place_at, refusing};
 use order::{Case, agrees};
 use ordering::BINDING_LIMIT;
 use records::{MOST_LONGEST, WORK_FACTOR};
-use replays::{Verdict, read_part, replay};
+use replays::told::told;
+use replays::{LONGEST, Verdict, read_part, replay};
 use std::io;
 use std::io::Read;
 
@@ -30,31 +31,29 @@ const WORK: usize = WORK_FACTOR * MOST_LONGEST;
 // The most bytes that a length of one byte can announce.
 const MOST_RESULT: usize = 255;
 
-// More bytes than a length of two bytes can announce.
-const LONGEST: usize = 65536;
-
-// What a case gives and must get.
-fn case_of(head: &[u8; HEAD]) -> Case
+// What a case gives and must get: none where no refusal has its number. Rust has no From between
+// usize and u64.
+fn case_of(head: &[u8; HEAD]) -> Option<Case>
     ensures { result ≡ case_from head.now }
 {
-    Case {
+    Some(Case {
         f: number(head, 0, 2),
         counter: number(head, 2, 8) as u64,
-        refusal: refusing(
-            number(head, 11, 1) as u32,
-            place_at(number(head, 12, 4) as u64),
-        ),
-        rounds: number(head, 16, 1) as u64,
-    }
+        refusal: told(head[11], number(head, 12, 4) as u64)?.err(),
+        rounds: u64::from(head[16]),
+    })
 }
 
 // Has the call answer a case, with a result buffer as long as the case says.
 fn judged(head: &[u8; HEAD], work: &mut [u8], wanted: &[u8], input: &[u8]) -> Verdict
     ensures { result ≡ Agrees → HeadAgrees head.now (length work.old) wanted.now input.now }
 {
+    let Some(c) = case_of(head) else {
+        return Verdict::Differs;
+    };
     let mut result = [0u8; MOST_RESULT];
-    let n = number(head, 10, 1);
-    replays::judged(agrees(case_of(head), work, input, wanted, &mut result[..n]))
+    let n = usize::from(head[10]);
+    replays::judged(agrees(c, work, input, wanted, &mut result[..n]))
 }
 
 // Reads what follows the head of a case, and has the call answer it.
@@ -65,12 +64,8 @@ fn rest(
     wanted: &mut [u8],
     buf: &mut [u8],
 ) -> io::Result<Verdict> {
-    let Some(wanted) = read_part(stdin, wanted, number(head, 17, 1))? else {
-        return Ok(Verdict::CutOff);
-    };
-    let Some(input) = read_part(stdin, buf, number(head, 18, 2))? else {
-        return Ok(Verdict::CutOff);
-    };
+    let wanted = read_part(stdin, wanted, usize::from(head[17]))?;
+    let input = read_part(stdin, buf, number(head, 18, 2))?;
     Ok(judged(head, work, wanted, input))
 }
 

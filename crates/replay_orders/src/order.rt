@@ -1,9 +1,10 @@
 // The one place that knows the call Order.
 ghost use Rattle.std.specs.Prelude.{◌≡◌};
+ghost use Rattle.names.specs.Refusals.{refusal_number};
 ghost use Rattle.replays.specs.Judging.{Decides};
-ghost use Rattle.replay_orders.specs.Orders.{AllHeld, BytesAgree, OrderAgrees, Somewhere, AgreesIn};
+ghost use Rattle.replay_orders.specs.Orders.{AllHeld, BytesAgree, OrderAgrees, Somewhere, AgreesIn, due_answer};
 
-use names::{Answer, Refusal};
+use names::{Answer, Reason, Refusal};
 use ordering::call::order_call;
 use replays::{fill, untouched};
 
@@ -12,7 +13,7 @@ use replays::{fill, untouched};
 pub struct Case {
     pub f: usize,
     pub counter: u64,
-    pub refusal: Refusal,
+    pub refusal: Option<Refusal>,
     pub rounds: u64,
 }
 
@@ -30,18 +31,23 @@ fn all_held(list: &[u8], bytes: &[u8]) -> bool
     bytes.iter().all(|b| holds(list, *b))
 }
 
-// Whether refusal, counter and rounds are those of the case.
-fn same_head(c: Case, a: Answer) -> bool
-    ensures { Decides result ((a.refusal ≡ c.refusal) × (a.counter ≡ c.counter) × (a.rounds ≡ c.rounds)) }
+// The answer that a case must get, with so many bytes written.
+fn due_answer(c: Case, len: usize) -> Answer
+    ensures { result ≡ due_answer c len }
 {
-    a.refusal == c.refusal && a.counter == c.counter && a.rounds == c.rounds
+    Answer {
+        refusal: c.refusal,
+        counter: c.counter,
+        rounds: c.rounds,
+        len,
+    }
 }
 
 // Whether the bytes written are the wanted ones: of a deadlock in any sequence.
-fn same_bytes(number: u32, got: &[u8], wanted: &[u8]) -> bool
-    ensures { Decides result (BytesAgree number got.now wanted.now) }
+fn same_bytes(refusal: Option<Refusal>, got: &[u8], wanted: &[u8]) -> bool
+    ensures { Decides result (BytesAgree (refusal_number refusal) got.now wanted.now) }
 {
-    if number == 5 {
+    if refusal.is_some_and(|r| r.reason == Reason::Deadlock) {
         got.len() == wanted.len() && all_held(got, wanted)
     } else {
         got == wanted
@@ -53,10 +59,10 @@ fn same_result(c: Case, a: Answer, res: &[u8], wanted: &[u8]) -> bool
     ensures { Decides result (OrderAgrees c wanted.now (a, res.now)) }
 {
     let len = a.len;
-    len <= res.len()
-        && same_head(c, a)
+    a == due_answer(c, wanted.len())
+        && len <= res.len()
         && untouched(&res[len..])
-        && same_bytes(a.refusal.number, &res[..len], wanted)
+        && same_bytes(a.refusal, &res[..len], wanted)
 }
 
 // Whether the call answers a case as it must.

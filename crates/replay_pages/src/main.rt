@@ -3,7 +3,8 @@
 //
 // A case is F, the lengths of work memory and of the result buffer, the number, the place, how many
 // bytes are written and the length of the input (2, 4, 4, 1, 4, 4 and 2 bytes, big-endian); then the
-// bytes written, and then the input.
+// bytes written, and then the input. `replay_orders` is alike in form: what is the same stands in `replays`,
+// and cases, places and the call differ.
 #![tactic(auto)]
 
 mod page;
@@ -13,10 +14,10 @@ ghost use Rattle.replays.specs.declared.Verdict.TheVariants.{Agrees};
 ghost use Rattle.replay_pages.specs.Pages.{case_from, HeadAgrees};
 
 use names::bytes::number;
-use names::refusals::{place_at, refusing};
 use page::{Case, agrees};
 use records::{MOST_LONGEST, WORK_FACTOR};
-use replays::{Verdict, read_part, replay};
+use replays::told::told;
+use replays::{LONGEST, Verdict, read_part, replay};
 use std::io;
 use std::io::Read;
 
@@ -29,20 +30,15 @@ const WORK: usize = WORK_FACTOR * MOST_LONGEST;
 // The longest result buffer of a stored case.
 const MOST_RESULT: usize = 16384;
 
-// More bytes than a length of two bytes can announce.
-const LONGEST: usize = 65536;
-
-// What a case gives and must get.
-fn case_of(head: &[u8; HEAD]) -> Case
+// What a case gives and must get: none where no refusal has its number. Rust has no From between
+// usize and u64.
+fn case_of(head: &[u8; HEAD]) -> Option<Case>
     ensures { result ≡ case_from head.now }
 {
-    Case {
+    Some(Case {
         f: number(head, 0, 2),
-        refusal: refusing(
-            number(head, 10, 1) as u32,
-            place_at(number(head, 11, 4) as u64),
-        ),
-    }
+        refusal: told(head[10], number(head, 11, 4) as u64)?.err(),
+    })
 }
 
 // Has the call answer a case, with work memory and a result buffer as long as the case says.
@@ -63,7 +59,10 @@ fn judged(
     if m > res.len() {
         return Verdict::CutOff;
     }
-    replays::judged(agrees(case_of(head), &mut work[..n], input, wanted, &mut res[..m]))
+    let Some(c) = case_of(head) else {
+        return Verdict::Differs;
+    };
+    replays::judged(agrees(c, &mut work[..n], input, wanted, &mut res[..m]))
 }
 
 // Reads what follows the head of a case, and has the call answer it.
@@ -74,12 +73,8 @@ fn rest(
     wanted: &mut [u8],
     buf: &mut [u8],
 ) -> io::Result<Verdict> {
-    let Some(wanted) = read_part(stdin, wanted, number(head, 15, 4))? else {
-        return Ok(Verdict::CutOff);
-    };
-    let Some(input) = read_part(stdin, buf, number(head, 19, 2))? else {
-        return Ok(Verdict::CutOff);
-    };
+    let wanted = read_part(stdin, wanted, number(head, 15, 4))?;
+    let input = read_part(stdin, buf, number(head, 19, 2))?;
     let mut result = [0u8; MOST_RESULT];
     Ok(judged(head, work, &mut result, wanted, input))
 }

@@ -12,34 +12,30 @@ ghost use Rattle.replay_reads.specs.Reading.{ReadAgrees};
 
 use names::bytes::number;
 use reader::{agrees, wanted};
-use replays::{Verdict, read_part, replay};
+use replays::told::told;
+use replays::{LONGEST, Verdict, read_part, replay};
 use std::io;
 use std::io::Read;
 
 // The bytes of a case before its input.
 const HEAD: usize = 8;
 
-// More bytes than a length of two bytes can announce.
-const LONGEST: usize = 65536;
-
-// Has the reader answer a case.
+// Has the reader answer a case. Rust has no From between usize and u64.
 fn judged(head: &[u8; HEAD], input: &[u8]) -> Verdict
     ensures { result ≡ Agrees → ReadAgrees head.now input.now }
 {
-    replays::judged(agrees(
-        wanted(number(head, 0, 1) as u8),
-        number(head, 2, 2),
-        number(head, 1, 1) as u32,
-        number(head, 4, 2) as u64,
-        input,
-    ))
+    let Some(due) = told(head[1], number(head, 4, 2) as u64) else {
+        return Verdict::Differs;
+    };
+    replays::judged(agrees(wanted(head[0]), number(head, 2, 2), due, input))
 }
 
-// Reads what follows the head of a case, and has the reader answer it.
+// Reads what follows the head of a case, and has the reader answer it. A case that cannot be read is cut
+// off, whatever the error.
 fn rest(stdin: &mut impl Read, head: &[u8; HEAD], buf: &mut [u8]) -> io::Result<Verdict> {
     Ok(match read_part(stdin, buf, number(head, 6, 2)) {
-        Ok(Some(input)) => judged(head, input),
-        _ => Verdict::CutOff,
+        Ok(input) => judged(head, input),
+        Err(_) => Verdict::CutOff,
     })
 }
 

@@ -1,7 +1,7 @@
 // The one place that knows the reader.
 ghost use Rattle.std.specs.Prelude.{◌≡◌};
 ghost use Rattle.replays.specs.Judging.{Decides};
-ghost use Rattle.replay_reads.specs.Reading.{wanted_of, reading, told};
+ghost use Rattle.replay_reads.specs.Reading.{wanted_of, reading};
 
 use names::Refusal;
 use records::input::open_input;
@@ -18,25 +18,9 @@ pub fn wanted(kind: u8) -> Wanted
     }
 }
 
-// Whether an answer is the one that a number (0 accepted) and a place tell.
-fn tells(opening: Result<(), Refusal>, number: u32, place: u64) -> bool
-    ensures { Decides result (opening ≡ told number place) }
-{
-    match opening {
-        Ok(()) => number == 0 && place == 0,
-        Err(r) => {
-            if number == 0 && place == 0 {
-                return false;
-            }
-            r.number == number && r.place.start == place
-        }
-    }
-}
-
 // Whether the reader answers a case as it must.
-pub fn agrees(wanted: Wanted, f: usize, number: u32, place: u64, input: &[u8]) -> bool
-    ensures { Decides result (reading wanted f input.now ≡ told number place) }
+pub fn agrees(wanted: Wanted, f: usize, due: Result<(), Refusal>, input: &[u8]) -> bool
+    ensures { Decides result (reading wanted f input.now ≡ due) }
 {
-    let opening = open_input(wanted, f, WORK_FACTOR * MOST_LONGEST, 0, input);
-    tells(opening, number, place)
+    open_input(wanted, f, WORK_FACTOR * MOST_LONGEST, 0, input) == due
 }

@@ -9,7 +9,6 @@ use lib.ListN.{length, take, drop, length-drop}
 use lib.Seq.{take_all}
 use Rattle.names.specs.Maps.{NameMap, map_bytes}
 use Rattle.names.specs.Names.{Bytes, ascii, same}
-use Rattle.names.specs.Refusals.{placeless}
 use Rattle.names.specs.declared.Refusal.{Refusal}
 use Rattle.names.specs.Segments.{At}
 use Rattle.names.proofs.Frames.{at_below}
@@ -37,7 +36,7 @@ use Rattle.walk.proofs.MapLaws.{no_map}
 use Rattle.walk.proofs.OnParts.{from, rejoin, part_gives}
 use Rattle.replay_sexps.specs.Cases.{Taken, FormIn, SexpsIn, Ready, Holds, due_step, DueGrowth, ruled, Renamed, Tells, TellsDrawn, AsTold, CaseForm}
 use Rattle.replays.proofs.Deciding.{decides_same}
-use Rattle.replay_sexps.proofs.Comparing.{told}
+use Rattle.replay_sexps.proofs.Comparing.{step_tells}
 use Rattle.replay_sexps.specs.declared.sexps.Case.{Case}
 use Rattle.std.specs.declared.result.Result.{Result}
 use Rattle.std.specs.declared.result.Result.TheVariants.{Ok, Err}
@@ -176,7 +175,7 @@ module _ {input mem : Bytes} {a b : ℕ} {p t : Sexp} (c : Case) (k : Taken inpu
 
   -- a case tells what is drawn and then substituted
   pub tells_drawn : (map wanted : Bytes) {y : Bytes} {g : Growth} {end : ℕ}
-      → InventsSexp (from mem a) y 0 0 c.counter (Ok g) → c.invented ≡ 0 → DueGrowth c.after a end (length map) g
+      → InventsSexp (from mem a) y 0 0 c.counter (Ok g) → c.invented ≡ Ok tt → DueGrowth c.after a end (length map) g
       → Holds (rejoin mem a y) input (length input) map → Renamed c (rejoin mem a y) (length input) b g.len wanted
       → AsTold c map wanted p t
   unfolding ready
@@ -189,10 +188,10 @@ module _ {input mem : Bytes} {a b : ℕ} {p t : Sexp} (c : Case) (k : Taken inpu
 
   -- a case tells that drawing is refused
   pub tells_refused : (map wanted : Bytes) {y : Bytes} {r : Refusal} → InventsSexp (from mem a) y 0 0 c.counter (Err r)
-      → r ≡ placeless c.invented → AsTold c map wanted p t
+      → c.invented ≡ Err r → AsTold c map wanted p t
   tells_refused map wanted i e =
       let d = drawn i in
-      subst (TellsDrawn c map wanted t) (sym (d.draws.runs 0)) (sym d.draws.is ∙ e)
+      subst (TellsDrawn c map wanted t) (sym (d.draws.runs 0)) (e ∙ ap Err d.draws.is)
 
 -- a case tells what its rule answers of the S record, from its place on
 pub tells_renamed : (c : Case) (wanted : Bytes) {mem y : Bytes} {n at len : ℕ} {t : Sexp} {m : NameMap}
@@ -205,4 +204,4 @@ pub tells_renamed : (c : Case) (wanted : Bytes) {mem y : Bytes} {n at len : ℕ}
 tells_renamed c wanted {mem} {y} {n} {at} {t = t} r s due there =
     let w = r.within in
     let g = part_gives at (omega (arith, r.fits)) s n (omega arith) r.map t r.there (omega arith) r.valid.0 in
-    told c.substituted (n - at) c.after n wanted (rejoin mem at y) g due ((decides_same _ _).only (sym there))
+    step_tells c.substituted (n - at) c.after n wanted (rejoin mem at y) g due ((decides_same _ _).only (sym there))

@@ -1,16 +1,16 @@
 -- What the calls of a case ask of its input and of memory, and what a case tells of their answers. Assumes nothing.
-use Rattle.std.specs.Prelude.{true, false, [], ◌≡◌, ℕ, zero, suc, ◌+◌, ◌-◌, ◌≤◌, ◌<◌, length}
+use Rattle.std.specs.Prelude.{true, false, [], ◌≡◌, ℕ, zero, suc, ◌+◌, ◌-◌, ◌≤◌, ◌<◌, length, Option, Some, Result, Ok, Err}
 use Rattle.names.specs.CallAnswer.{max_counter}
 use Rattle.names.specs.Maps.{NameMap, map_bytes}
 use Rattle.names.specs.Names.{Bytes}
-use Rattle.names.specs.Refusals.{placeless}
 use Rattle.names.specs.Segments.{At}
 use Rattle.records.specs.Limits.{most_longest, cons_limit}
 use Rattle.records.specs.Records.{Loc, Sexp, BV, []ʰ, Form, CF, sexp_bytes, form_bytes}
 use Rattle.records.specs.StepAnswer.{Outcome, gives, refuses}
 use Rattle.records.specs.Valid.{SexpFields, cons_depth, ValidSexp, ValidForm}
 use Rattle.records.specs.declared.Step.{Step}
-use Rattle.replays.specs.Judging.{filling}
+use Rattle.replays.specs.Judging.{filling, head_byte, head_field}
+use Rattle.replays.specs.Told.{told, ◌>>=◌}
 use Rattle.replay_sexps.specs.declared.sexps.Case.{Case}
 use Rattle.replay_sexps.specs.declared.sexps.Rule.{Rule}
 use Rattle.replay_sexps.specs.declared.sexps.Rule.TheVariants.{Substitute, IntoQq, InsideQq, Alone}
@@ -19,9 +19,7 @@ use Rattle.walk.specs.DrawnMaps.{growth}
 use Rattle.walk.specs.Invent.{invent_new_names_sexp}
 use Rattle.walk.specs.RenameInCons.{rename_atom, rename_in_cons, rename_in_qq}
 use Rattle.walk.specs.declared.Growth.{Growth}
-use Rattle.std.specs.declared.result.Result.{Result}
 use Rattle.names.specs.declared.Refusal.{Refusal}
-use Rattle.std.specs.declared.result.Result.TheVariants.{Err}
 use Rattle.records.specs.StepAnswer.{step_of}
 
 -- an input and a counter that a call takes
@@ -57,10 +55,10 @@ pub record Holds (mem input : Bytes) (from : ℕ) (map : Bytes) : Type 0 where
   pub between : At mem from (filling (length mem - length map - from))
   pub end : At mem (length mem - length map) map
 
--- the step that a case tells: so many bytes read and written and the counter where its number is 0, else a refusal with the number and no place
-abbrev pub due_step : ℕ → ℕ → ℕ → ℕ → Result Step Refusal
-due_step zero read wrote c = step_of read wrote c
-due_step (suc n) read wrote c = Err (placeless (suc n))
+-- the step that a case tells: so many bytes read and written and the counter where nothing is refused, else the refusal
+abbrev pub due_step : Result (Unit {0}) Refusal → ℕ → ℕ → ℕ → Result Step Refusal
+due_step (Ok u) read wrote c = step_of read wrote c
+due_step (Err r) read wrote c = Err r
 
 -- how far a case tells that names are drawn: to the end of the pattern, one byte before the body
 pub record DueGrowth (c pattern body len : ℕ) (g : Growth) : Type 0 where
@@ -81,10 +79,10 @@ ruled IntoQq = rename_in_cons true
 ruled InsideQq = rename_in_qq true
 ruled Alone = rename_atom
 
--- a case tells this outcome: its number is 0, and the wanted bytes and the counter are those given; or its number is that of the refusal, which names no place
-abbrev pub Tells : ℕ → ℕ → Bytes → Outcome Sexp → Type 0
-Tells number after wanted (gives u c) = (number ≡ 0) × (c ≡ after) × (sexp_bytes u ≡ wanted)
-Tells number after wanted (refuses r) = (number ≡ 0 → ⊥) × (r ≡ placeless number)
+-- a case tells this outcome: nothing is refused, and the wanted bytes and the counter are those given; or the refusal is that given
+abbrev pub Tells : Result (Unit {0}) Refusal → ℕ → Bytes → Outcome Sexp → Type 0
+Tells due after wanted (gives u c) = (due ≡ Ok tt) × (c ≡ after) × (sexp_bytes u ≡ wanted)
+Tells due after wanted (refuses r) = due ≡ Err r
 
 -- what the rule of a case makes of every S record and every map that stand there is what the case tells
 abbrev pub Renamed : Case → Bytes → ℕ → ℕ → ℕ → Bytes → Type 0
@@ -92,13 +90,13 @@ Renamed c mem n at len wanted =
     (t : Sexp) (m : NameMap) → Ready mem n at len c.room t m
     → Tells c.substituted c.after wanted (fitting sexp_bytes c.room c.after (ruled c.rule m t))
 
--- a case tells this outcome of drawing names, and what its rule then makes of t: its number is 0, and the map and the counter are those given;
--- or its number is that of the refusal, which names no place
+-- a case tells this outcome of drawing names, and what its rule then makes of t: nothing is refused, and the map and the counter are those given;
+-- or the refusal is that given
 abbrev pub TellsDrawn : Case → Bytes → Bytes → Sexp → Outcome NameMap → Type 0
 TellsDrawn c map wanted t (gives m k) =
-    (c.invented ≡ 0) × (k ≡ c.after) × (map_bytes m ≡ map)
+    (c.invented ≡ Ok tt) × (k ≡ c.after) × (map_bytes m ≡ map)
     × Tells c.substituted c.after wanted (fitting sexp_bytes c.room c.after (ruled c.rule m t))
-TellsDrawn c map wanted t (refuses r) = r ≡ placeless c.invented
+TellsDrawn c map wanted t (refuses r) = c.invented ≡ Err r
 
 -- by the definitions, drawing names from p and then substituting t gives what a case tells
 abbrev pub AsTold : Case → Bytes → Bytes → Sexp → Sexp → Type 0
@@ -131,3 +129,19 @@ pub record InputAsTold (c : Case) (input map wanted : Bytes) : Type 0 where
   pub valid : ValidForm form
   pub is : input ≡ form_bytes form
   pub told : FormAsTold c map wanted form
+
+-- the head of a case: F, how long the result may be, the counter, the rule, the number that Invent gives, the counter after it and the number that
+-- Substitute gives, 2, 2, 8, 1, 1, 8 and 1 bytes; a refusal names no place
+abbrev pub case_from : Bytes → Option Case
+case_from head = do
+  invented ← told (head_byte head 13) 0
+  substituted ← told (head_byte head 22) 0
+  Some (record {
+    f = head_field head 0 2;
+    room = head_field head 2 2;
+    counter = head_field head 4 8;
+    rule = rule_of (head_byte head 12);
+    invented = invented;
+    after = head_field head 14 8;
+    substituted = substituted;
+  })

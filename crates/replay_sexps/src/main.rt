@@ -11,11 +11,13 @@
 
 mod sexps;
 
-ghost use Rattle.std.specs.Prelude.{◌≤◌, length};
+ghost use Rattle.std.specs.Prelude.{◌≡◌, ◌≤◌, length};
+ghost use Rattle.replay_sexps.specs.Cases.{case_from};
 
 use names::bytes::number;
 use records::MOST_LONGEST;
-use replays::{Verdict, read_part, replay};
+use replays::told::told;
+use replays::{LONGEST, Verdict, read_part, replay};
 use sexps::{Case, FACTOR, agrees, rule_of};
 use std::io;
 use std::io::Read;
@@ -24,31 +26,37 @@ use std::io::Read;
 const HEAD: usize = 29;
 
 // The most bytes that three lengths of two bytes can announce.
-const PARTS: usize = 3 * 65535;
+const PARTS: usize = 3 * LONGEST;
 
 // Memory for the longest input with its map, and the most bytes that a result can take.
-const MEMORY: usize = FACTOR * MOST_LONGEST + 65535;
+const MEMORY: usize = FACTOR * MOST_LONGEST + LONGEST;
 
-// What a case gives and must get.
-fn case_of(head: &[u8; HEAD]) -> Case {
-    Case {
+// What a case gives and must get: none where no refusal has one of its numbers. Rust has no From
+// between usize and u64.
+fn case_of(head: &[u8; HEAD]) -> Option<Case>
+    ensures { result ≡ case_from head.now }
+{
+    Some(Case {
         f: number(head, 0, 2),
         room: number(head, 2, 2),
         counter: number(head, 4, 8) as u64,
-        rule: rule_of(number(head, 12, 1) as u8),
-        invented: number(head, 13, 1) as u32,
+        rule: rule_of(head[12]),
+        invented: told(head[13], 0)?,
         after: number(head, 14, 8) as u64,
-        substituted: number(head, 22, 1) as u32,
-    }
+        substituted: told(head[22], 0)?,
+    })
 }
 
 // Has the calls answer a case, whose result and input stand behind the map from these places on.
 fn judged(head: &[u8; HEAD], mem: &mut [u8], parts: &[u8], res: usize, input: usize) -> Verdict
     requires { (res ≤ input) × (input ≤ length parts.now) }
 {
+    let Some(c) = case_of(head) else {
+        return Verdict::Differs;
+    };
     let map = &parts[..res];
     let wanted = &parts[res..input];
-    replays::judged(agrees(case_of(head), mem, &parts[input..], map, wanted))
+    replays::judged(agrees(c, mem, &parts[input..], map, wanted))
 }
 
 // Reads what follows the head of a case, and has the calls answer it.
@@ -60,9 +68,7 @@ fn rest(
 ) -> io::Result<Verdict> {
     let result = number(head, 23, 2);
     let input = result + number(head, 25, 2);
-    let Some(parts) = read_part(stdin, buf, input + number(head, 27, 2))? else {
-        return Ok(Verdict::CutOff);
-    };
+    let parts = read_part(stdin, buf, input + number(head, 27, 2))?;
     Ok(judged(head, mem, parts, result, input))
 }
 

@@ -1,7 +1,6 @@
 // The one place that knows Invent and Substitute.
 ghost use Rattle.std.specs.Prelude.{true, ◌≡◌, ◌+◌, ◌*◌, ◌≤◌, length};
 ghost use Rattle.names.specs.Maps.{NameMap};
-ghost use Rattle.names.specs.Refusals.{placeless};
 ghost use Rattle.names.specs.Segments.{At};
 ghost use Rattle.records.specs.Records.{Sexp, Form, sexp_bytes};
 ghost use Rattle.replays.specs.Judging.{Decides};
@@ -10,7 +9,6 @@ ghost use Rattle.walk.specs.Arena.{Asks, Held, Substitutes};
 
 use names::Refusal;
 use names::bytes::{is_word, put};
-use names::refusals::placeless;
 use records::bodies::quote_view;
 use records::helpers::form_view;
 use records::input::open_input;
@@ -37,16 +35,16 @@ pub enum Rule {
     Alone,
 }
 
-// What a case gives beside its input, and the numbers and the counter that it must get.
+// What a case gives beside its input, whether each call must refuse, and the counter that it must get.
 #[derive(Clone, Copy)]
 pub struct Case {
     pub f: usize,
     pub room: usize,
     pub counter: u64,
     pub rule: Rule,
-    pub invented: u32,
+    pub invented: Result<(), Refusal>,
     pub after: u64,
-    pub substituted: u32,
+    pub substituted: Result<(), Refusal>,
 }
 
 // Where the S record starts that names are drawn from, where the body starts, one byte behind its
@@ -84,44 +82,26 @@ fn load(mem: &mut [u8], input: &[u8])
 fn holds(mem: &[u8], input: &[u8], from: usize, map: &[u8]) -> bool
     ensures { Decides result (Holds mem.now input.now from map.now) }
 {
-    if map.len() > mem.len() {
+    let Some(top) = mem.len().checked_sub(map.len()) else {
         return false;
-    }
-    let top = mem.len() - map.len();
-    if from > top {
-        return false;
-    }
-    if !is_word(mem, 0, input) {
-        return false;
-    }
-    if !is_word(mem, top, map) {
-        return false;
-    }
-    untouched(&mem[from..top])
+    };
+    from <= top && is_word(mem, 0, input) && is_word(mem, top, map) && untouched(&mem[from..top])
 }
 
-// Whether it is refused with a number, and no place.
-fn refused_as(number: u32, refusal: Refusal) -> bool
-    ensures { Decides result (refusal ≡ placeless number) }
-{
-    refusal == placeless(number)
-}
-
-// Whether a step answers as it must: it read and wrote so many bytes and left the counter, or it is
-// refused.
-fn same_step(
-    number: u32,
+// The step that a case must get: it read and wrote so many bytes and left the counter, or is refused.
+fn due_step(
+    due: Result<(), Refusal>,
     read: usize,
-    wrote: usize,
+    written: usize,
     counter: u64,
-    step: Result<Step, Refusal>,
-) -> bool
-    ensures { Decides result (step ≡ due_step number read wrote counter) }
+) -> Result<Step, Refusal>
+    ensures { result ≡ due_step due read written counter }
 {
-    match step {
-        Ok(s) => number == 0 && s.read == read && s.written == wrote && s.counter == counter,
-        Err(refusal) => number != 0 && refused_as(number, refusal),
-    }
+    due.map(|()| Step {
+        read,
+        written,
+        counter,
+    })
 }
 
 // Substitutes the S record at the start of memory by the rule of a case.
@@ -160,13 +140,9 @@ fn renames(
         counter: c.after,
     };
     let step = substitute(c.rule, &mut mem[target..], task);
-    if !same_step(c.substituted, free, wanted.len(), c.after, step) {
-        return false;
-    }
-    if !is_word(mem, n, wanted) {
-        return false;
-    }
-    holds(mem, input, n + c.room, map)
+    step == due_step(c.substituted, free, wanted.len(), c.after)
+        && is_word(mem, n, wanted)
+        && holds(mem, input, n + c.room, map)
 }
 
 // Whether Invent answers as it must, where it is not refused: the counter, the length of the
@@ -174,10 +150,11 @@ fn renames(
 fn same_draw(counter: u64, at: Places, len: usize, drawn: Growth) -> bool
     ensures { Decides result (DueGrowth counter at.pattern at.body len drawn) }
 {
-    at.pattern < at.body
-        && drawn.counter == counter
-        && drawn.end == at.body - at.pattern - 1
-        && drawn.len == len
+    if at.pattern >= at.body {
+        return false;
+    }
+    let end = at.body - at.pattern - 1;
+    drawn == Growth { len, counter, end }
 }
 
 // Whether both calls answer as they must.
@@ -190,18 +167,12 @@ fn draws(c: Case, mem: &mut [u8], input: &[u8], at: Places, map: &[u8], wanted: 
     load(mem, input);
     let pattern = at.pattern;
     match invent_new_names_sexp(&mut mem[pattern..], 0, c.counter, CONS_LIMIT) {
-        Err(r) => refused_as(c.invented, r) && is_word(mem, 0, input),
+        Err(r) => c.invented == Err(r) && is_word(mem, 0, input),
         Ok(g) => {
-            if c.invented != 0 {
-                return false;
-            }
-            if !same_draw(c.after, at, map.len(), g) {
-                return false;
-            }
-            if !holds(mem, input, input.len(), map) {
-                return false;
-            }
-            renames(c, mem, input, at.target, g.len, map, wanted)
+            c.invented == Ok(())
+                && same_draw(c.after, at, map.len(), g)
+                && holds(mem, input, input.len(), map)
+                && renames(c, mem, input, at.target, g.len, map, wanted)
         }
     }
 }

@@ -1,6 +1,6 @@
 -- What a test decides, what memory is filled with, and what is made of a judged case.
 -- Assumes nothing.
-use Rattle.std.specs.Prelude.{Bool, true, false, ◌≡◌, ℕ, take, drop, replicate}
+use Rattle.std.specs.Prelude.{Bool, true, false, ◌≡◌, ℕ, get_or, take, drop, replicate}
 use Rattle.names.specs.Names.{Bytes, number_of}
 use Rattle.replays.specs.declared.Verdict.{Verdict}
 use Rattle.replays.specs.declared.Verdict.TheVariants.{Agrees, Differs, CutOff, Broken, Ended}
@@ -26,6 +26,10 @@ goes_further Differs = false
 goes_further CutOff = false
 goes_further Broken = false
 goes_further Ended = false
+
+-- the byte of a case's head at p
+abbrev pub head_byte : Bytes → ℕ → ℕ
+head_byte head p = get_or head p 0
 
 -- the number that w bytes of a case's head stand for, from p on
 abbrev pub head_field : Bytes → ℕ → ℕ → ℕ

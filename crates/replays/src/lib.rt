@@ -1,12 +1,18 @@
 // What the programs that replay stored cases share: the loop over the cases, what is said of them,
-// and memory that is filled before a call.
+// and memory that is filled before a call. `told` has what a case tells of a refusal.
 #![tactic(auto)]
 
-ghost use Rattle.std.specs.Prelude.{◌≡◌, ◌≤◌, length, IfOk, IfSome};
+pub mod told;
+
+ghost use Rattle.std.specs.Prelude.{◌≡◌, ◌≤◌, length, IfOk};
+ghost use Rattle.names.specs.CallAnswer.{written};
 ghost use Rattle.replays.specs.Judging.{Decides, filling, judged_as, goes_further};
 
 use std::io;
-use std::io::Read;
+use std::io::{ErrorKind, Read};
+
+// The most bytes that a length of two bytes can announce.
+pub const LONGEST: usize = 65535;
 
 // What memory is filled with.
 const FILL: u8 = 7;
@@ -37,22 +43,14 @@ pub fn read_full(stdin: &mut impl Read, buf: &mut [u8]) -> io::Result<usize>
     Ok(done)
 }
 
-// Reads so many bytes to the front of a buffer, and hands them out: none where the buffer is too
-// short for them or the input ends before.
-pub fn read_part<'a>(
-    stdin: &mut impl Read,
-    buf: &'a mut [u8],
-    count: usize,
-) -> io::Result<Option<&'a [u8]>>
-    ensures { IfOk result (λ o. IfSome o (λ part. length part.now ≡ count)) }
+// Reads so many bytes to the front of a buffer, and hands them out. Where the buffer is too short for
+// them or the input ends before, that is an unexpected end.
+pub fn read_part<'a>(stdin: &mut impl Read, buf: &'a mut [u8], count: usize) -> io::Result<&'a [u8]>
+    ensures { IfOk result (λ part. length part.now ≡ count) }
 {
-    let Some(part) = buf.get_mut(..count) else {
-        return Ok(None);
-    };
-    if read_full(stdin, part)? < count {
-        return Ok(None);
-    }
-    Ok(Some(part))
+    let part = buf.get_mut(..count).ok_or(ErrorKind::UnexpectedEof)?;
+    stdin.read_exact(part)?;
+    Ok(part)
 }
 
 // Agrees, or differs.
@@ -99,6 +97,14 @@ pub fn goes_on(rt: &impl Print, outcome: Verdict, done: u64, kind: &[u8]) -> boo
     false
 }
 
+// A case in which the input ends is cut off; no other error is of the case.
+fn cut_off(error: io::Error) -> io::Result<Verdict> {
+    match error.kind() {
+        ErrorKind::UnexpectedEof => Ok(Verdict::CutOff),
+        _ => Err(error),
+    }
+}
+
 // What a case begins with: an array of bytes. A bound on a closure cannot name an array's length.
 pub trait Head: Drop {
     // All bytes of it.
@@ -128,7 +134,7 @@ pub fn replay<H: Head, R: Read, F: FnMut(&mut R, &H) -> io::Result<Verdict>>(
         let outcome = match read_full(stdin, bytes)? {
             0 => Verdict::Ended,
             n if n < bytes.len() => Verdict::CutOff,
-            _ => judge(stdin, &head)?,
+            _ => judge(stdin, &head).or_else(cut_off)?,
         };
         if !goes_on(rt, outcome, done, kind) {
             break;
@@ -149,4 +155,15 @@ pub fn untouched(rest: &[u8]) -> bool
     ensures { Decides result (rest.now ≡ filling (length rest.now)) }
 {
     rest.iter().all(|b| *b == FILL)
+}
+
+// Whether the wanted bytes stand at the front of a result buffer, and behind them what it was filled
+// with.
+pub fn holds(buffer: &[u8], wanted: &[u8]) -> bool
+    ensures { Decides result (buffer.now ≡ written wanted.now (filling (length buffer.now))) }
+{
+    match buffer.strip_prefix(wanted) {
+        Some(rest) => untouched(rest),
+        None => false,
+    }
 }

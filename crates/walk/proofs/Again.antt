@@ -14,7 +14,8 @@ use Rattle.records.specs.declared.Zone.{Zone}
 use Rattle.records.specs.declared.Zone.TheVariants.{Plain}
 use Rattle.records.specs.Limits.{level_limit, lambda_limit}
 use Rattle.records.specs.Read.{binding_zone}
-use Rattle.records.specs.Records.{Loc, Sexp, SN, SC, SI, SQ, SA, Parallel, Sequential, Assign, Pattern, Name, Complex, Body, BL, BQ, BV, BC, BM, BF, Bodies, []ᵇ, ◌∷ᵇ◌, Tail, no_tail, tail, Binding, BB, Helper, HC, HM, HD, HN, HR, Helpers, []ʰ, ◌∷ʰ◌, Form, CF, list_of, bodies_count, helpers_count, form_bytes, helper_bytes}
+use Rattle.records.specs.Records.{Loc, Sexp, SN, SC, SI, SQ, SA, Pattern, Name, Complex, Body, BL, BQ, BV, BC, BM, BF, Bodies, []ᵇ, ◌∷ᵇ◌, Tail, no_tail, tail, Binding, BB, Helper, HC, HM, HD, HN, HR, Helpers, []ʰ, ◌∷ʰ◌, Form, CF, list_of, bodies_count, helpers_count, form_bytes, helper_bytes}
+use Rattle.records.specs.declared.Kind.TheVariants.{Parallel, Sequential, Assign}
 use Rattle.records.specs.Valid.{ValidName, ValidSexp, ValidPattern, BodyFields, HelperFields, FormFields, lambda_depth, helper_lambda_depth, form_lambda_depth, NoMod, HelperNoMod, FormNoMod}
 use Rattle.records.proofs.Complete.{bindings_same}
 use Rattle.records.proofs.Readers.{Any, T_of}

@@ -10,7 +10,8 @@ use lib.ListN.{length, take, drop}
 use lib.Seq.{take_at}
 use Rattle.names.specs.CallAnswer.{CallResult, accepted_answer, refused_answer, delivered, written, max_counter}
 use Rattle.names.specs.Names.{Bytes}
-use Rattle.names.specs.Refusals.{placeless}
+use Rattle.names.specs.Refusals.{placeless, refusal_number}
+use Rattle.names.specs.declared.Reason.TheVariants.{ShortBuffer}
 use Rattle.names.proofs.Same.{T-both, T-left}
 use Rattle.records.specs.declared.Zone.{Zone}
 use Rattle.records.specs.declared.Zone.TheVariants.{Plain}
@@ -68,16 +69,16 @@ module _ {A : Type 0} {reader : Reader A} {walk_of : ℕ → A → M A} {bytes :
     (runs : (F : ℕ) (a : A) → deep a ≤ level_limit → Runs (dbl level_limit (count a)) (λ b. (deep b ≤ deep a) × (count b ≤ count a)) (walk_of F a))
     (keeps : (F : ℕ) (a : A) → Kept Fields lambdas Clear Plain lambda_limit a → Gives Plain (Fits F bytes (Kept Fields lambdas Clear Plain lambda_limit)) (walk_of F a)) where
   call_again : (F work c : ℕ) (input buffer : Bytes) → AreBytes input
-      → let r : CallResult = answered bytes c buffer (call_run reader walk_of F work c input) in r.0.refusal.number ≡ 0 → Again reader walk_of bytes F work c input r
+      → let r : CallResult = answered bytes c buffer (call_run reader walk_of F work c input) in refusal_number r.0.refusal ≡ 0 → Again reader walk_of bytes F work c input r
   unfolding call_run answered refused_answer delivered written
   call_again F work c input buffer b = go (open_input reader F work c input) refl (start reader F work c input)
     where
       Goal : CallResult → Type 0
-      Goal r = r.0.refusal.number ≡ 0 → Again reader walk_of bytes F work c input r
+      Goal r = refusal_number r.0.refusal ≡ 0 → Again reader walk_of bytes F work c input r
 
       delivers : (a t : A) (log : List Event) (c' x : ℕ) → open_input reader F work c input ≡ opened a → walk_of F a c 0 ≡ done log t c' x
           → deep t ≤ level_limit → Fits F bytes (Kept Fields lambdas Clear Plain lambda_limit) t → (y : Bool)
-          → Goal (elim y as (λ _. CallResult) [ true ↦ (accepted_answer c' 0 (length (bytes t)), written (bytes t) buffer) | false ↦ refused_answer c buffer (placeless 8) ])
+          → Goal (elim y as (λ _. CallResult) [ true ↦ (accepted_answer c' 0 (length (bytes t)), written (bytes t) buffer) | false ↦ refused_answer c buffer (placeless ShortBuffer) ])
       delivers a t log c' x e w h k true z =
           let q = take_at (bytes t) (drop (length (bytes t)) buffer) (length (bytes t)) refl in
           record {
@@ -106,14 +107,14 @@ module _ {A : Type 0} {reader : Reader A} {walk_of : ℕ → A → M A} {bytes :
           walked a e v.0.1 (walk_of F a c 0) refl ((runs F a v.0.1).fine c 0) ((keeps F a (record { fields = v.0.0; lambdas = v.0.2; clear = v.1 })).fine c 0)
 
 module _ (F work c : ℕ) (input buffer : Bytes) (b : AreBytes input) where
-  pub whole_again : (whole_call F work c input buffer).0.refusal.number ≡ 0 → Again (readers level_limit).form whole_walk form_bytes F work c input (whole_call F work c input buffer)
+  pub whole_again : refusal_number (whole_call F work c input buffer).0.refusal ≡ 0 → Again (readers level_limit).form whole_walk form_bytes F work c input (whole_call F work c input buffer)
   unfolding whole_call whole_run
   whole_again = call_again {deep = form_depth} {count = form_atoms} form_format whole_runs whole_keeps F work c input buffer b
 
-  pub children_again : (children_call F work c input buffer).0.refusal.number ≡ 0 → Again (readers level_limit).form children_walk form_bytes F work c input (children_call F work c input buffer)
+  pub children_again : refusal_number (children_call F work c input buffer).0.refusal ≡ 0 → Again (readers level_limit).form children_walk form_bytes F work c input (children_call F work c input buffer)
   unfolding children_call children_run
   children_again = call_again {deep = form_depth} {count = form_atoms} form_format children_runs children_keeps F work c input buffer b
 
-  pub helper_again : (helper_call F work c input buffer).0.refusal.number ≡ 0 → Again (readers level_limit).helper helper_walk helper_bytes F work c input (helper_call F work c input buffer)
+  pub helper_again : refusal_number (helper_call F work c input buffer).0.refusal ≡ 0 → Again (readers level_limit).helper helper_walk helper_bytes F work c input (helper_call F work c input buffer)
   unfolding helper_call helper_run
   helper_again = call_again {deep = helper_depth} {count = helper_atoms} helper_format helper_runs helper_keeps F work c input buffer b

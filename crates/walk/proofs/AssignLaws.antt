@@ -9,6 +9,7 @@ use lib.ListN.{length, take, drop}
 use lib.Seq.{length-take-le}
 use Rattle.names.specs.Names.{Bytes, ascii, number_of}
 use Rattle.names.specs.Refusals.{refusing, place_at}
+use Rattle.names.specs.declared.Reason.TheVariants.{Deadlock}
 use Rattle.names.specs.Segments.{At}
 use Rattle.names.specs.declared.Place.{Place}
 use Rattle.names.specs.declared.Refusal.{Refusal}
@@ -21,7 +22,9 @@ use Rattle.ordering.specs.Words.{toposort_assign_bindings}
 use Rattle.ordering.specs.declared.Order.{Order}
 use Rattle.records.specs.StepAnswer.{refuses, refused}
 use Rattle.records.specs.Limits.{most_longest}
-use Rattle.records.specs.Records.{mark_width, loc_width, Loc, loc_number, kind_field, byte, Kind, Assign, Body, BL, body_bytes, Bindings, bindings_bytes, bindings_count, list_of}
+use Rattle.records.specs.Records.{mark_width, loc_width, Loc, loc_number, kind_field, byte, Body, BL, body_bytes, Bindings, bindings_bytes, bindings_count, list_of}
+use Rattle.records.specs.declared.Kind.{Kind}
+use Rattle.records.specs.declared.Kind.TheVariants.{Assign}
 use Rattle.records.specs.Valid.{IsLet, BodyFields}
 use Rattle.walk.specs.Arena.{outcome}
 use Rattle.walk.specs.AssignWalks.{let_bindings, OrderedReady}
@@ -107,10 +110,10 @@ module _ {mem : Bytes} {t : Task} (p : BodyReady (IsLet Assign) true mem t) wher
     unfolding refuse outcome
     refuses_so r c x = refl
 
-    pub deadlock_refused : {n : ℕ} {at : Place} {q : Refusal} → o.placed < o.count → n ≡ number_of (take loc_width (drop (mark_width + 1) mem)) → at ≡ place_at n → q ≡ refusing 5 at
+    pub deadlock_refused : {n : ℕ} {at : Place} {q : Refusal} → o.placed < o.count → n ≡ number_of (take loc_width (drop (mark_width + 1) mem)) → at ≡ place_at n → q ≡ refusing Deadlock at
         → Walks (IsLet Assign) true mem mem t (Err q)
     deadlock_refused {n} {at} {q} lt e₁ e₂ e₃ =
-        let e : q ≡ deadlocked view.l = e₃ ∙ ap (refusing 5) (e₂ ∙ ap place_at (e₁ ∙ loc_is)) in
+        let e : q ≡ deadlocked view.l = e₃ ∙ ap (refusing Deadlock) (e₂ ∙ ap place_at (e₁ ∙ loc_is)) in
         let run = no_order t.f (walk t.f (t.depth - 1)) view.l view.w view.h (list_of view.bs) view.e _ (stuck lt) in
         tells_of unique_fine p same_refl
         (refused q (own_assign t.f t.depth p.m p.tree view t.counter (some_level p.good) ∙ ap (λ (m : M Body). outcome (step t.f body_size m t.counter 0)) run

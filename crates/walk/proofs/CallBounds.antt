@@ -11,7 +11,8 @@ use lib.Dec.{leb}
 use lib.ListN.{length}
 use Rattle.names.specs.CallAnswer.{CallResult, accepted_answer, refused_answer, delivered, written}
 use Rattle.names.specs.Names.{Bytes}
-use Rattle.names.specs.Refusals.{placeless}
+use Rattle.names.specs.Refusals.{placeless, refusal_number, reason_number}
+use Rattle.names.specs.declared.Reason.TheVariants.{ShortBuffer}
 use Rattle.names.specs.declared.Refusal.{Refusal}
 use Rattle.records.specs.Depth.{helper_depth, form_depth}
 use Rattle.records.specs.Limits.{level_limit, most_longest}
@@ -39,7 +40,7 @@ most_draws = refl
 
 -- a call from the counter c, the assigns that it reaches, and its answer: no number above 8, and no counter that passes 64 bits
 pub record CallBounded (c : ℕ) (list : List Visit) (r : CallResult) : Type 0 where
-  pub number : r.0.refusal.number ≤ 8
+  pub number : refusal_number r.0.refusal ≤ 8
   pub counter : r.0.counter ≤ c + most
   pub inside : (e : Visit) → e is_in list → e.counter ≤ c + most
 
@@ -52,7 +53,7 @@ module _ {A : Type 0} (reader : Reader A) (walk_of : ℕ → A → M A) (bytes :
   bounded F work c input a q = (s F a (shallow input a None q.read)).fine c 0
 
   -- the walk of an input that is opened refuses with 5, 6 or 7 and nothing else
-  walk_refuses : (F work c : ℕ) (input : Bytes) (a : A) {log : List Event} {r : Refusal} → open_input reader F work c input ≡ opened a → walk_of F a c 0 ≡ refused log r → WalkRefusal r.number
+  walk_refuses : (F work c : ℕ) (input : Bytes) (a : A) {log : List Event} {r : Refusal} → open_input reader F work c input ≡ opened a → walk_of F a c 0 ≡ refused log r → WalkRefusal (reason_number r.reason)
   walk_refuses F work c input a e w =
       let q : OpenedFrom reader F c input a = rw e at (start reader F work c input) in
       let f = rw w at (bounded F work c input a q) in
@@ -63,7 +64,7 @@ module _ {A : Type 0} (reader : Reader A) (walk_of : ℕ → A → M A) (bytes :
   call_runs F work c input buffer = go (open_input reader F work c input) (start reader F work c input)
     where
       delivers : {list : List Visit} (b : Bytes) (c' : ℕ) → All (Below (c + most)) list → c' ≤ c + most → (t : Bool)
-          → CallBounded c list (elim t as (λ _. CallResult) [ true ↦ (accepted_answer c' 0 (length b), written b buffer) | false ↦ refused_answer c buffer (placeless 8) ])
+          → CallBounded c list (elim t as (λ _. CallResult) [ true ↦ (accepted_answer c' 0 (length b), written b buffer) | false ↦ refused_answer c buffer (placeless ShortBuffer) ])
       delivers b c' g h true = record { number = omega arith; counter = h; inside = λ e m. all_in g m }
       delivers b c' g h false = record { number = omega arith; counter = omega arith; inside = λ e m. all_in g m }
 
@@ -97,11 +98,11 @@ module _ (F work c : ℕ) (input buffer : Bytes) where
   helper_call_runs = call_runs _ helper_walk helper_bytes helper_depth helper_atoms helper_deep helper_read_back few_helper helper_runs F work c input buffer
 
   -- once the walk has begun, it refuses with 5, 6 or 7 and nothing else
-  pub whole_refuses : (f : Form) {log : List Event} {r : Refusal} → open_input (readers level_limit).form F work c input ≡ opened f → whole_walk F f c 0 ≡ refused log r → WalkRefusal r.number
+  pub whole_refuses : (f : Form) {log : List Event} {r : Refusal} → open_input (readers level_limit).form F work c input ≡ opened f → whole_walk F f c 0 ≡ refused log r → WalkRefusal (reason_number r.reason)
   whole_refuses = walk_refuses _ whole_walk form_bytes form_depth form_atoms form_deep form_read_back few_form whole_runs F work c input
 
-  pub children_refuses : (f : Form) {log : List Event} {r : Refusal} → open_input (readers level_limit).form F work c input ≡ opened f → children_walk F f c 0 ≡ refused log r → WalkRefusal r.number
+  pub children_refuses : (f : Form) {log : List Event} {r : Refusal} → open_input (readers level_limit).form F work c input ≡ opened f → children_walk F f c 0 ≡ refused log r → WalkRefusal (reason_number r.reason)
   children_refuses = walk_refuses _ children_walk form_bytes form_depth form_atoms form_deep form_read_back few_form children_runs F work c input
 
-  pub helper_refuses : (x : Helper) {log : List Event} {r : Refusal} → open_input (readers level_limit).helper F work c input ≡ opened x → helper_walk F x c 0 ≡ refused log r → WalkRefusal r.number
+  pub helper_refuses : (x : Helper) {log : List Event} {r : Refusal} → open_input (readers level_limit).helper F work c input ≡ opened x → helper_walk F x c 0 ≡ refused log r → WalkRefusal (reason_number r.reason)
   helper_refuses = walk_refuses _ helper_walk helper_bytes helper_depth helper_atoms helper_deep helper_read_back few_helper helper_runs F work c input

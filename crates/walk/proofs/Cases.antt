@@ -7,9 +7,12 @@ use Prim.Native.Nat.{ℕ}
 use Prim.Native.String.{String}
 use lib.ListN.{length, replicate, take}
 use Rattle.names.specs.Names.{Bytes, ascii}
-use Rattle.records.specs.Records.{Loc, Sexp, SN, SC, SI, SA, Kind, Parallel, Sequential, Assign, Name, Complex, Body, BL, BV, BC, BF, no_tail, Binding, BB, Helper, HC, HM, HD, HN, Form, CF, to_bodies, to_bindings, to_helpers, body_bytes, helper_bytes, form_bytes}
+use Rattle.records.specs.Records.{Loc, Sexp, SN, SC, SI, SA, Name, Complex, Body, BL, BV, BC, BF, no_tail, Binding, BB, Helper, HC, HM, HD, HN, Form, CF, to_bodies, to_bindings, to_helpers, body_bytes, helper_bytes, form_bytes}
+use Rattle.records.specs.declared.Kind.{Kind}
+use Rattle.records.specs.declared.Kind.TheVariants.{Parallel, Sequential, Assign}
 use Rattle.walk.specs.Calls.{computing_all, whole_call, children_call, helper_call}
 use Rattle.names.specs.CallAnswer.{CallResult, name_call}
+use Rattle.names.specs.Refusals.{refusal_number, refusal_place}
 use Rattle.ordering.specs.OrderCall.{order_call}
 
 -- a call, its counter and its input; those in -in have F and the length of the buffer first
@@ -36,7 +39,7 @@ abbrev pub Seen : Type 0
 Seen = ℕ × ℕ × ℕ × Bytes
 
 abbrev pub seen : CallResult → Seen
-seen r = (r.0.refusal.number, r.0.refusal.place.start, r.0.counter, take r.0.len r.1)
+seen r = (refusal_number r.0.refusal, (refusal_place r.0.refusal).start, r.0.counter, take r.0.len r.1)
 
 abbrev pub accepted : ℕ → Bytes → Seen
 accepted c bs = (0, 0, c, bs)

@@ -6,7 +6,9 @@ use mathlib.Core.List.{List, [], ◌∷◌}
 use Prim.Native.Nat.{ℕ}
 use Prim.Native.String.{String}
 use Rattle.names.specs.Names.{Bytes, ascii}
-use Rattle.records.specs.Records.{Loc, Sexp, SN, SC, SI, SQ, SA, Kind, Parallel, Sequential, Assign, Name, Complex, Body, BL, BQ, BV, BC, BM, BF, tail, Binding, BB, Helper, HC, HM, HD, HN, HR, CF, to_bodies, to_bindings, to_helpers, form_bytes}
+use Rattle.records.specs.Records.{Loc, Sexp, SN, SC, SI, SQ, SA, Name, Complex, Body, BL, BQ, BV, BC, BM, BF, tail, Binding, BB, Helper, HC, HM, HD, HN, HR, CF, to_bodies, to_bindings, to_helpers, form_bytes}
+use Rattle.records.specs.declared.Kind.{Kind}
+use Rattle.records.specs.declared.Kind.TheVariants.{Parallel, Sequential, Assign}
 use Rattle.walk.specs.Calls.{computing_all}
 use Rattle.walk.proofs.Cases.{Call, whole, single, Seen, accepted, constant_of, Holds}
 

@@ -8,7 +8,8 @@ use Prim.Native.String.{String}
 use lib.ListN.{replicate}
 use Rattle.names.specs.CallAnswer.{max_counter}
 use Rattle.names.specs.Names.{ascii}
-use Rattle.records.specs.Records.{SN, SA, Assign, Body, BL, BM, to_bindings, form_bytes}
+use Rattle.records.specs.Records.{SN, SA, Body, BL, BM, to_bindings, form_bytes}
+use Rattle.records.specs.declared.Kind.TheVariants.{Assign}
 use Rattle.walk.specs.Steps.{Visit, events, names_made}
 use Rattle.walk.specs.Calls.{computing_all, whole_run, whole_visits, children_visits, helper_visits}
 use Rattle.walk.proofs.Cases.{Call, name, order, whole, children, single, whole_in, children_in, single_in, answer, Seen, seen, accepted, at, var, number, atom, named, complex, let_one, assign, outer, self_bound, call, lambda, thunk, captures, constant, form_with, form_of, constant_of}

@@ -4,7 +4,8 @@ use mathlib.Core.Path.{refl}
 use mathlib.Core.List.{List, [], ◌∷◌}
 use Prim.Native.String.{String}
 use Rattle.names.specs.Names.{Bytes, ascii}
-use Rattle.records.specs.Records.{Sexp, SN, SI, Parallel, Sequential, Body, BQ, BC, BF, tail, Helper, HR, to_bodies, helper_bytes, form_bytes}
+use Rattle.records.specs.Records.{Sexp, SN, SI, Body, BQ, BC, BF, tail, Helper, HR, to_bodies, helper_bytes, form_bytes}
+use Rattle.records.specs.declared.Kind.TheVariants.{Parallel, Sequential}
 use Rattle.walk.specs.Calls.{computing_all}
 use Rattle.walk.proofs.Cases.{Call, whole, children, single, Seen, accepted, at, var, number, atom, cons, named, complex, let_of, let_one, assign, call, nil, lambda, thunk, no_raw, constant, function, macro, namespace, form_with, constant_of, Holds}
 

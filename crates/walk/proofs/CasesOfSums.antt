@@ -8,7 +8,8 @@ use Prim.Native.String.{String}
 use lib.ListN.{replicate}
 use Rattle.names.specs.CallAnswer.{max_counter}
 use Rattle.names.specs.Names.{Bytes}
-use Rattle.records.specs.Records.{Sexp, SN, Parallel, Sequential, Body, BF, helper_bytes, form_bytes}
+use Rattle.records.specs.Records.{Sexp, SN, Body, BF, helper_bytes, form_bytes}
+use Rattle.records.specs.declared.Kind.TheVariants.{Parallel, Sequential}
 use Rattle.walk.specs.Calls.{computing_all}
 use Rattle.walk.proofs.Cases.{Call, whole_in, children_in, single_in, answer, Seen, seen, accepted, at, var, atom, cons, named, complex, let_of, assign, self_bound, call, nil, lambda, thunk, captures, constant, function, macro, namespace, form_with, constant_of}
 

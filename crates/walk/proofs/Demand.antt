@@ -4,13 +4,15 @@ use mathlib.Core.Logic.{◌⊎◌, inl, inr}
 use mathlib.Core.Bool.{Bool, true, false}
 use mathlib.Core.List.Memᴰ
 use mathlib.Core.List.{List, [], ◌∷◌, ◌++◌}
+use Rattle.std.specs.Prelude.{Option, Some}
 use Prim.Native.Nat.{ℕ, ◌≤◌, ◌<◌}
 use native.Mathlib.Omega.{arith}
 use lib.Dec.{leb}
 use lib.ListN.{length}
 use Rattle.names.specs.Names.{Bytes}
 use Rattle.names.specs.CallAnswer.{CallResult, accepted_answer, refused_answer, delivered, written}
-use Rattle.names.specs.Refusals.{place_at, placeless}
+use Rattle.names.specs.Refusals.{place_at, placeless, refusal_number, reason_number}
+use Rattle.names.specs.declared.Reason.TheVariants.{ShortBuffer}
 use Rattle.names.specs.declared.Refusal.{Refusal}
 use Rattle.records.specs.Records.{loc_number, form_bytes, helper_bytes}
 use Rattle.records.specs.Opened.{Opened, opened, closed, open_input}
@@ -44,8 +46,8 @@ neither h g (inr z) = absurd (g z)
 
 module _ (F : ℕ) where
   -- where each has an order, and the number is not 5
-  all_ordered : {list : List Visit} {r : Refusal} → All HasOrder list → ((e : Visit) → e is_in list → Good F e) → (r.number ≡ 5 → ⊥)
-      → ((r.number ≡ 0) ⊎ (r.number ≡ 8) → (e : Visit) → e is_in list → Done F e) → (1 ≤ r.number → r.number ≤ 4 → list ≡ []) → AssignsOrdered F list r
+  all_ordered : {list : List Visit} {r : Option Refusal} → All HasOrder list → ((e : Visit) → e is_in list → Good F e) → (refusal_number r ≡ 5 → ⊥)
+      → ((refusal_number r ≡ 0) ⊎ (refusal_number r ≡ 8) → (e : Visit) → e is_in list → Done F e) → (1 ≤ refusal_number r → refusal_number r ≤ 4 → list ≡ []) → AssignsOrdered F list r
   all_ordered a g h d n = record {
     orders = λ e m. ordered_exactly e.bindings;
     refuses = (λ q. absurd (h q), λ f. absurd (f.2 (all_in a f.1)));
@@ -56,7 +58,7 @@ module _ (F : ℕ) where
   }
 
   -- where the last has none
-  ends_deadlocked : {list : List Visit} {r : Refusal} → All (Good F) list → Deadlocked F list r → AssignsOrdered F list r
+  ends_deadlocked : {list : List Visit} {r : Refusal} → All (Good F) list → Deadlocked F list r → AssignsOrdered F list (Some r)
   ends_deadlocked {list} {r} g d = record {
     orders = λ e m. ordered_exactly e.bindings;
     refuses = (λ _. (d.last, there, d.none_there), λ _. number);
@@ -68,16 +70,16 @@ module _ (F : ℕ) where
     none_reached = λ _ h. absurd (omega (arith, number));
   }
     where
-      number : r.number ≡ 5
-      number = ap (λ (x : Refusal). x.number) d.refusal
+      number : reason_number r.reason ≡ 5
+      number = ap (λ (x : Refusal). reason_number x.reason) d.refusal
 
       there : d.last is_in list
       there = rw d.ends (middle d.earlier [] d.last)
 
-  of_done : {list : List Visit} {r : Refusal} → All (Done F) list → (r.number ≡ 5 → ⊥) → (1 ≤ r.number → r.number ≤ 4 → list ≡ []) → AssignsOrdered F list r
+  of_done : {list : List Visit} {r : Option Refusal} → All (Done F) list → (refusal_number r ≡ 5 → ⊥) → (1 ≤ refusal_number r → refusal_number r ≤ 4 → list ≡ []) → AssignsOrdered F list r
   of_done a h n = all_ordered (all_map (λ e d. d.order) a) (λ e m. (all_in a m).good) h (λ _ e m. all_in a m) n
 
-  of_refused : {list : List Visit} {r : Refusal} → All (Good F) list → Ends F list r → AssignsOrdered F list r
+  of_refused : {list : List Visit} {r : Refusal} → All (Good F) list → Ends F list r → AssignsOrdered F list (Some r)
   of_refused g (inl d) = ends_deadlocked g d
   of_refused g (inr s) = all_ordered s.all_ordered (λ e m. all_in g m) (λ z. absurd (omega (arith, s.late))) (neither (omega (arith, s.late)) s.not_8) (λ _ h. absurd (omega (arith, s.late)))
 
@@ -87,7 +89,7 @@ module _ (F : ℕ) where
   of_delivered c buffer {list} bs c' a = go (leb (length bs) (length buffer))
     where
       go : (b : Bool)
-          → AssignsOrdered F list (elim b as (λ _. CallResult) [ true ↦ (accepted_answer c' 0 (length bs), written bs buffer) | false ↦ refused_answer c buffer (placeless 8) ]).0.refusal
+          → AssignsOrdered F list (elim b as (λ _. CallResult) [ true ↦ (accepted_answer c' 0 (length bs), written bs buffer) | false ↦ refused_answer c buffer (placeless ShortBuffer) ]).0.refusal
       go true = of_done a (omega arith) (λ h _. absurd (omega arith))
       go false = of_done a (omega arith) (λ _ h. absurd (omega arith))
 

@@ -14,7 +14,8 @@ use Rattle.names.proofs.Places.{at_whole, at_own, at_place, at_is, at_left, at_r
 use Rattle.names.proofs.Segments.{filled_then}
 use Rattle.records.specs.StepAnswer.{Gives, gave, refused}
 use Rattle.records.specs.Depth.{depth}
-use Rattle.records.specs.Records.{head_width, mark_width, Loc, Parallel, Sequential, Pattern, Body, BL, BQ, BV, BC, BM, BF, Binding, BB, []ᵍ, ◌∷ᵍ◌, byte, kind_field, list_of, loc_width, pattern_field, body_bytes, binding_bytes, bindings_bytes, bindings_count, record_bytes}
+use Rattle.records.specs.Records.{head_width, mark_width, Loc, Pattern, Body, BL, BQ, BV, BC, BM, BF, Binding, BB, []ᵍ, ◌∷ᵍ◌, byte, kind_field, list_of, loc_width, pattern_field, body_bytes, binding_bytes, bindings_bytes, bindings_count, record_bytes}
+use Rattle.records.specs.declared.Kind.TheVariants.{Parallel, Sequential}
 use Rattle.records.specs.Valid.{ValidLoc, BodyFields, BindingFields, lambda_depth, ValidBody, IsLet}
 use Rattle.records.specs.declared.Family.TheVariants.{Binding as a_binding}
 use Rattle.records.specs.declared.Step.{Step}

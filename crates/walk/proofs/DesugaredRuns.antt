@@ -8,7 +8,8 @@ use lib.ListN.{length}
 use Rattle.names.specs.Names.{Bytes}
 use Rattle.names.specs.Segments.{SameOutside}
 use Rattle.records.specs.StepAnswer.{Gives}
-use Rattle.records.specs.Records.{Parallel, Body, Binding, BB, list_of, body_bytes, bindings_count}
+use Rattle.records.specs.Records.{Body, Binding, BB, list_of, body_bytes, bindings_count}
+use Rattle.records.specs.declared.Kind.TheVariants.{Parallel}
 use Rattle.records.specs.Valid.{IsLet}
 use Rattle.records.specs.declared.Step.{Step}
 use Rattle.walk.specs.Arena.{outcome}

@@ -4,7 +4,7 @@ use mathlib.Core.Path.{◌≡◌, refl, sym, ap, subst, ◌∙◌}
 use mathlib.Core.Bool.{Bool, true, false}
 use native.Mathlib.Omega.{arith}
 use Prim.Native.Nat.{ℕ, zero, suc, ◌+◌, ◌-◌, ◌≤◌}
-use lib.ListN.{length, take, drop}
+use lib.ListN.{length, take}
 use Rattle.names.specs.Maps.{NameMap}
 use Rattle.names.specs.Names.{Bytes, ascii, same}
 use Rattle.names.specs.Segments.{At}
@@ -29,7 +29,7 @@ use Rattle.names.specs.declared.Refusal.{Refusal}
 
 -- the mark that stands at the start
 abbrev pub mark : Bytes → ℕ
-mark s = mark_index (take mark_width (drop 0 s)) body_marks
+mark s = mark_index (take mark_width s) body_marks
 
 index_of : {s : Bytes} (b : Body) → At s 0 (body_bytes b) → mark s ≡ body_index b
 unfolding body_bytes ascii mark_index same

@@ -7,7 +7,8 @@ use native.Mathlib.Omega.{arith}
 use mathlib.Core.Option.{Option}
 use Rattle.names.specs.Names.{Bytes}
 use Rattle.names.specs.Maps.{NameMap}
-use Rattle.records.specs.Records.{Loc, Parallel, Sequential, Assign, Name, Complex, Body, BL, BQ, BV, BC, BM, BF, Bodies, []ᵇ, ◌∷ᵇ◌, Tail, no_tail, tail, Binding, BB, list_of}
+use Rattle.records.specs.Records.{Loc, Name, Complex, Body, BL, BQ, BV, BC, BM, BF, Bodies, []ᵇ, ◌∷ᵇ◌, Tail, no_tail, tail, Binding, BB, list_of}
+use Rattle.records.specs.declared.Kind.TheVariants.{Parallel, Sequential, Assign}
 use Rattle.ordering.specs.Toposort.{Toposorted, ordered, deadlock}
 use Rattle.ordering.specs.Words.{toposort_assign_bindings}
 use Rattle.walk.specs.Steps.{M, Out, Event, done, refused, Visit, refuse, out_of_fuel, ◌>>=◌, after, step, child, further, fits}

@@ -9,7 +9,9 @@ use Rattle.names.specs.declared.Refusal.{Refusal}
 use Rattle.records.specs.declared.Zone.{Zone}
 use Rattle.records.specs.declared.Zone.TheVariants.{Plain, InBinding, InMod}
 use Rattle.records.specs.Read.{binding_zone}
-use Rattle.records.specs.Records.{Kind, Parallel, Sequential, Assign, Body, Helper, Form, to_bindings}
+use Rattle.records.specs.Records.{Body, Helper, Form, to_bindings}
+use Rattle.records.specs.declared.Kind.{Kind}
+use Rattle.records.specs.declared.Kind.TheVariants.{Parallel, Sequential, Assign}
 use Rattle.records.specs.Valid.{BindingsNoMod}
 use Rattle.walk.specs.Steps.{M, Out, Event, done, refused, Visit, visits, ret, refuse, ◌>>=◌, after}
 use Rattle.walk.specs.Bodyforms.{Rules}

@@ -14,7 +14,9 @@ use Rattle.names.specs.Maps.{NameMap, lookup, renamed}
 use Rattle.records.specs.Limits.{cons_limit, count_limit}
 use Rattle.records.specs.declared.Zone.{Zone}
 use Rattle.records.specs.Read.{binding_zone}
-use Rattle.records.specs.Records.{Loc, Sexp, SN, SC, SI, SQ, SA, Kind, Parallel, Pattern, Body, BL, Bodies, Tail, Binding, BB, Bindings, []ᵍ, ◌∷ᵍ◌, Helper, Helpers, Form, to_bindings, list_of, byte}
+use Rattle.records.specs.Records.{Loc, Sexp, SN, SC, SI, SQ, SA, Pattern, Body, BL, Bodies, Tail, Binding, BB, Bindings, []ᵍ, ◌∷ᵍ◌, Helper, Helpers, Form, to_bindings, list_of, byte}
+use Rattle.records.specs.declared.Kind.{Kind}
+use Rattle.records.specs.declared.Kind.TheVariants.{Parallel}
 use Rattle.records.specs.Sexps.{nilp, loc_of, is_atom, only}
 use Rattle.records.specs.Valid.{ValidLoc, ValidName, ValidKeyword, ValidHint, ValidSexp, cons_depth, SexpFields, BodyFields, BodiesFields, TailFields, BindingFields, BindingsFields, HelperFields, HelpersFields, FormFields, lambda_depth, bodies_lambda_depth, tail_lambda_depth, binding_lambda_depth, bindings_lambda_depth, helper_lambda_depth, helpers_lambda_depth, form_lambda_depth, NoMod, BodiesNoMod, TailNoMod, BindingNoMod, BindingsNoMod, HelperNoMod, HelpersNoMod, FormNoMod}
 use Rattle.walk.specs.RenameInCons.{requote, rename_in_cons, rename_in_qq, only_in_cons, only_in_qq, rename_atom}

@@ -14,7 +14,8 @@ use Rattle.names.proofs.Parts.{into}
 use Rattle.names.proofs.Places.{at_place, at_join}
 use Rattle.records.specs.StepAnswer.{Outcome, Gives}
 use Rattle.records.specs.Lists.{joined}
-use Rattle.records.specs.Records.{Loc, Kind, pattern_field, Body, BL, body_bytes, Binding, binding_bytes, to_bindings, list_of}
+use Rattle.records.specs.Records.{Loc, pattern_field, Body, BL, body_bytes, Binding, binding_bytes, to_bindings, list_of}
+use Rattle.records.specs.declared.Kind.{Kind}
 use Rattle.records.specs.Views.{SeesLet}
 use Rattle.records.specs.declared.LetView.{LetView}
 use Rattle.records.specs.declared.Step.{Step}

@@ -9,7 +9,9 @@ use Rattle.names.specs.Names.{Bytes, ascii}
 use Rattle.names.specs.Segments.{At}
 use Rattle.records.specs.Depth.{levels, depth}
 use Rattle.records.specs.Read.{kind_of}
-use Rattle.records.specs.Records.{mark_width, Kind, Parallel, Sequential, Assign, Body, BL, BQ, BV, BC, BM, BF, body_bytes, bindings_bytes, bindings_count, kind_field, byte, record_bytes}
+use Rattle.records.specs.Records.{mark_width, Body, BL, BQ, BV, BC, BM, BF, body_bytes, bindings_bytes, bindings_count, kind_field, byte, record_bytes}
+use Rattle.records.specs.declared.Kind.{Kind}
+use Rattle.records.specs.declared.Kind.TheVariants.{Parallel, Sequential, Assign}
 use Rattle.records.specs.Valid.{IsLet}
 use Rattle.records.specs.declared.Step.{Step}
 use Rattle.records.proofs.Views.{opened, first_of, rest_of, kind_at, kind_length}
@@ -110,18 +112,3 @@ module _ {mem : Bytes} {t : Task} (p : BodyReady IsBinder true mem t) where
 -- what is answered of a let of this kind
 pub walks_kind : {old new : Bytes} {t : Task} {r : Result Step Refusal} (k : Kind) → kind_of (get_or old mark_width 0) ≡ k → Walks (IsLet k) true old new t r → Walks IsBinder true old new t r
 walks_kind k e s = record { frame = s.frame; says = λ m map b there below good. s.says m map b there below (fine_as (let_kind b good.only there e) good) }
-
--- the kind by the byte
-pub is_parallel : {n : ℕ} → n ≡ 0 → kind_of n ≡ Parallel
-unfolding kind_of
-is_parallel e = ap kind_of e
-
-pub is_sequential : {n : ℕ} → n ≡ 1 → kind_of n ≡ Sequential
-unfolding kind_of
-is_sequential e = ap kind_of e
-
-pub is_assign : (n : ℕ) → (n ≡ 0 → ⊥) → (n ≡ 1 → ⊥) → kind_of n ≡ Assign
-unfolding kind_of
-is_assign zero p q = absurd (p refl)
-is_assign (suc zero) p q = absurd (q refl)
-is_assign (suc (suc n)) p q = refl

@@ -13,7 +13,8 @@ use Rattle.records.specs.Depth.{depth, bindings_depth, list_depth}
 use Rattle.records.specs.Limits.{level_limit, lambda_limit}
 use Rattle.records.specs.Lists.{joined, Each}
 use Rattle.records.specs.Read.{binding_zone}
-use Rattle.records.specs.Records.{Loc, byte, record_bytes, Kind, kind_field, Pattern, pattern_field, Body, BL, BQ, BV, BC, BM, BF, body_bytes, Binding, BB, binding_bytes, Bindings, []ᵍ, ◌∷ᵍ◌, bindings_bytes, bindings_count, to_bindings, list_of}
+use Rattle.records.specs.Records.{Loc, byte, record_bytes, kind_field, Pattern, pattern_field, Body, BL, BQ, BV, BC, BM, BF, body_bytes, Binding, BB, binding_bytes, Bindings, []ᵍ, ◌∷ᵍ◌, bindings_bytes, bindings_count, to_bindings, list_of}
+use Rattle.records.specs.declared.Kind.{Kind}
 use Rattle.records.specs.Valid.{ValidPattern, ValidBody, BodyFields, BindingFields, BindingsFields, lambda_depth, bindings_lambda_depth, NoMod, BindingsNoMod}
 use Rattle.records.specs.Views.{SeesLet}
 use Rattle.records.specs.declared.LetView.{LetView}

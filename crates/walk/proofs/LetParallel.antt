@@ -14,7 +14,9 @@ use Rattle.records.specs.StepAnswer.{Outcome, refuses, Gives}
 use Rattle.records.specs.Depth.{binding_depth}
 use Rattle.records.specs.Lists.{joined, Each}
 use Rattle.records.specs.Parts.{ValidBinding}
-use Rattle.records.specs.Records.{Kind, Parallel, Pattern, pattern_field, Body, BL, body_bytes, Binding, BB, binding_bytes, list_of}
+use Rattle.records.specs.Records.{Pattern, pattern_field, Body, BL, body_bytes, Binding, BB, binding_bytes, list_of}
+use Rattle.records.specs.declared.Kind.{Kind}
+use Rattle.records.specs.declared.Kind.TheVariants.{Parallel}
 use Rattle.records.specs.Valid.{ValidPattern, IsLet, binding_lambda_depth}
 use Rattle.records.specs.Views.{SeesLet}
 use Rattle.records.specs.declared.LetView.{LetView}

@@ -13,7 +13,8 @@ use Rattle.names.proofs.Parts.{into, at_part}
 use Rattle.names.proofs.Places.{at_place, at_join}
 use Rattle.records.specs.Depth.{binding_depth, list_depth}
 use Rattle.records.specs.Lists.{joined}
-use Rattle.records.specs.Records.{Parallel, Pattern, pattern_field, Body, BL, body_bytes, Binding, BB, binding_bytes, to_bindings, list_of}
+use Rattle.records.specs.Records.{Pattern, pattern_field, Body, BL, body_bytes, Binding, BB, binding_bytes, to_bindings, list_of}
+use Rattle.records.specs.declared.Kind.TheVariants.{Parallel}
 use Rattle.records.specs.declared.Step.{Step}
 use Rattle.walk.specs.Arena.{outcome}
 use Rattle.walk.specs.Bodyforms.{each_binding_body, args_then_in, walk}

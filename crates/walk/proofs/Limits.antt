@@ -12,7 +12,8 @@ use lib.ListN.{length, get_or}
 use Rattle.names.specs.Names.{Bytes, ascii, same, name_limit, gensym}
 use Rattle.names.specs.Maps.{NameMap}
 use Rattle.records.specs.Depth.{levels, depth, bodies_depth, tail_depth, binding_depth, list_depth}
-use Rattle.records.specs.Records.{Loc, Sexp, SN, SC, SI, SQ, SA, Parallel, Sequential, Assign, Pattern, Name, Complex, Body, BL, BQ, BV, BC, BM, BF, Bodies, []ᵇ, ◌∷ᵇ◌, Tail, no_tail, tail, Binding, BB, list_of, bindings_count}
+use Rattle.records.specs.Records.{Loc, Sexp, SN, SC, SI, SQ, SA, Pattern, Name, Complex, Body, BL, BQ, BV, BC, BM, BF, Bodies, []ᵇ, ◌∷ᵇ◌, Tail, no_tail, tail, Binding, BB, list_of, bindings_count}
+use Rattle.records.specs.declared.Kind.TheVariants.{Parallel, Sequential, Assign}
 use Rattle.records.proofs.Exact.{bindings_counted}
 use Rattle.records.proofs.Readers.{Any}
 use Rattle.ordering.specs.Lawful.{◌is_in◌}

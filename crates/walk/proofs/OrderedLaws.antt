@@ -21,7 +21,8 @@ use Rattle.records.specs.Limits.{level_limit, lambda_limit}
 use Rattle.records.specs.Lists.{joined, Each}
 use Rattle.records.specs.Parts.{ValidBinding}
 use Rattle.records.specs.Read.{binding_zone}
-use Rattle.records.specs.Records.{Loc, Assign, Body, BL, body_bytes, Binding, binding_bytes, Bindings, []ᵍ, ◌∷ᵍ◌, bindings_bytes, list_of, to_bindings}
+use Rattle.records.specs.Records.{Loc, Body, BL, body_bytes, Binding, binding_bytes, Bindings, []ᵍ, ◌∷ᵍ◌, bindings_bytes, list_of, to_bindings}
+use Rattle.records.specs.declared.Kind.TheVariants.{Assign}
 use Rattle.records.specs.Valid.{IsLet, BodyFields, BindingsFields, lambda_depth, bindings_lambda_depth, NoMod, BindingsNoMod}
 use Rattle.records.specs.Views.{SeesLet}
 use Rattle.records.specs.declared.LetView.{LetView}

@@ -8,7 +8,8 @@ use Prim.Native.Nat.{ℕ, zero, suc, ◌<◌}
 use lib.ListN.{length, get_or}
 use Rattle.names.specs.Maps.{NameMap, lookup, renamed}
 use Rattle.names.specs.Names.{Bytes}
-use Rattle.records.specs.Records.{Loc, Parallel, Pattern, Body, BL, Binding, BB, to_bindings}
+use Rattle.records.specs.Records.{Loc, Pattern, Body, BL, Binding, BB, to_bindings}
+use Rattle.records.specs.declared.Kind.TheVariants.{Parallel}
 use Rattle.ordering.specs.Assign.{body_of, no_binding, body_at}
 use Rattle.ordering.specs.Scope.{in_let_body, InScope}
 use Rattle.walk.specs.Bodyforms.{each_binding_body, Rules, args_then_in, rename_args_let}

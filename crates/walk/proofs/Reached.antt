@@ -11,7 +11,8 @@ use Rattle.names.specs.Maps.{NameMap}
 use Rattle.names.specs.Names.{Bytes, name_limit, gensym}
 use Rattle.names.specs.declared.Refusal.{Refusal}
 use Rattle.records.specs.Limits.{level_limit}
-use Rattle.records.specs.Records.{Loc, Parallel, Sequential, Assign, Body, BL, BQ, BV, BC, BM, BF, Bindings, Helper, Form, list_of}
+use Rattle.records.specs.Records.{Loc, Body, BL, BQ, BV, BC, BM, BF, Bindings, Helper, Form, list_of}
+use Rattle.records.specs.declared.Kind.TheVariants.{Parallel, Sequential, Assign}
 use Rattle.records.specs.Valid.{IsLet}
 use Rattle.walk.specs.Bodyforms.{visit, logged, log_assign, rename_args_assign, rename_args_bodyform, rename_in_bodyform, body_rules, walk}
 use Rattle.walk.specs.Helperforms.{rename_args_helperform, rename_in_helperform, rename_args_compileform, rename_in_compileform, rename_children_compileform, form_rules, form_walk, children_walk}

@@ -5,6 +5,7 @@ use mathlib.Core.List.{List}
 use Prim.Native.Nat.{ℕ, ◌+◌, ◌≤◌}
 use native.Mathlib.Omega.{arith}
 use lib.ListN.{length}
+use Rattle.names.specs.Refusals.{reason_number}
 use Rattle.records.specs.Depth.{depth, helper_depth, form_depth, list_depth}
 use Rattle.records.specs.Records.{Loc, Body, Binding, Helper, Form}
 use Rattle.walk.specs.Steps.{M, Out, Event, done, refused, Visit, visits, ret, refuse, ◌>>=◌, after}
@@ -23,7 +24,7 @@ WalkRefusal n = (n ≡ 5) ⊎ ((n ≡ 6) ⊎ (n ≡ 7))
 -- from the counter c: at most n further, at each assign reached too, and P of the result; or a refusal of the walk
 abbrev pub Fine : {A : Type 0} → ℕ → (A → Type 0) → ℕ → Out A → Type 0
 Fine n P c (done log a c' x) = All (Below (c + n)) (visits log) × (c' ≤ c + n) × P a
-Fine n P c (refused log r) = All (Below (c + n)) (visits log) × WalkRefusal r.number
+Fine n P c (refused log r) = All (Below (c + n)) (visits log) × WalkRefusal (reason_number r.reason)
 
 pub record Runs {A : Type 0} (n : ℕ) (P : A → Type 0) (m : M A) : Type 0 where
   pub fine : (c x : ℕ) → Fine n P c (m c x)

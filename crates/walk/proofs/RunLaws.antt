@@ -12,7 +12,8 @@ use Rattle.names.specs.Maps.{NameMap}
 use Rattle.names.specs.Names.{Bytes, ascii, same, name_limit, gensym}
 use Rattle.names.specs.declared.Refusal.{Refusal}
 use Rattle.records.specs.StepAnswer.{Outcome, gives, refuses}
-use Rattle.records.specs.Records.{Sexp, SN, SC, SI, SQ, SA, Parallel, Sequential, Assign, Body, BL, BQ, BV, BC, BM, BF}
+use Rattle.records.specs.Records.{Sexp, SN, SC, SI, SQ, SA, Body, BL, BQ, BV, BC, BM, BF}
+use Rattle.records.specs.declared.Kind.TheVariants.{Parallel, Sequential, Assign}
 use Rattle.walk.specs.Arena.{outcome}
 use Rattle.walk.specs.Bodyforms.{body_rules, walk, log_assign, logged, visit, rename_args_bodyform, rename_in_bodyform}
 use Rattle.walk.specs.Invent.{name_too_long, draw, invent_new_names_sexp, rename_in_cons_step}

@@ -6,7 +6,8 @@ use native.Mathlib.Omega.{arith}
 use native.Mathlib.Nat.{not-suc-le-zero, le_of_suc-le-suc}
 use Prim.Native.Nat.{ℕ, zero, suc, ◌<◌}
 use lib.ListN.{length, take}
-use Rattle.records.specs.Records.{Loc, Parallel, Sequential, Body, BL, Binding, BB, []ᵍ, ◌∷ᵍ◌, list_of, byte}
+use Rattle.records.specs.Records.{Loc, Body, BL, Binding, BB, []ᵍ, ◌∷ᵍ◌, list_of, byte}
+use Rattle.records.specs.declared.Kind.TheVariants.{Parallel, Sequential}
 use Rattle.ordering.specs.Assign.{body_of, body_at}
 use Rattle.ordering.specs.Scope.{Spot, in_binding, in_let_body, InScope}
 use Rattle.walk.specs.Bodyforms.{desugar_sequential_let_bindings}

@@ -6,8 +6,10 @@ use Prim.Native.Nat.{ℕ, suc, ◌≤◌, ◌<◌}
 use native.Mathlib.Omega.{arith}
 use Rattle.names.specs.Names.{Bytes}
 use Rattle.names.specs.declared.Refusal.{Refusal}
+use Rattle.names.specs.Refusals.{reason_number}
 use Rattle.records.specs.Depth.{levels, depth}
-use Rattle.records.specs.Records.{Loc, Sequential, Body, BL, BB, Bindings, []ᵍ, ◌∷ᵍ◌, list_of, bindings_count}
+use Rattle.records.specs.Records.{Loc, Body, BL, BB, Bindings, []ᵍ, ◌∷ᵍ◌, list_of, bindings_count}
+use Rattle.records.specs.declared.Kind.TheVariants.{Sequential}
 use Rattle.walk.specs.Bodyforms.{desugar_sequential_let_bindings, log_assign, rename_args_desugared, rename_args_sequential, rename_args_bodyform, body_rules, walk}
 use Rattle.walk.specs.Steps.{M, Out, done, refused, out_of_fuel, after, ◌>>=◌, ◌>>◌, ret, add_to_sum, child, further, body_size}
 use Rattle.walk.proofs.Fuel.{OutOfFuel, same_run, less_walk}
@@ -19,8 +21,8 @@ has_fuel : {A : Type 0} {n : ℕ} {P : A → Type 0} {m : M A} → Runs n P m �
 unfolding out_of_fuel
 has_fuel {A} {n} {P} {m} s c x = go (m c x) (s.fine c x)
   where
-    other : {r : Refusal} (k : ℕ) → r.number ≡ k → k < 99 → ¬ (r ≡ out_of_fuel)
-    other {r} k e h q = omega (arith, ap (λ (y : Refusal). y.number) q)
+    other : {r : Refusal} (k : ℕ) → reason_number r.reason ≡ k → k < 9 → ¬ (r ≡ out_of_fuel)
+    other {r} k e h q = omega (arith, ap (λ (y : Refusal). reason_number y.reason) q)
 
     go : (o : Out A) → Fine n P c o → ¬ OutOfFuel o
     go (done log a c' x') f = λ e. e

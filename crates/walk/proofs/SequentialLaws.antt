@@ -15,7 +15,8 @@ use Rattle.names.proofs.Parts.{into}
 use Rattle.records.specs.StepAnswer.{Outcome, gives, refuses, Gives, gave, refused}
 use Rattle.records.specs.Depth.{levels, depth, list_depth}
 use Rattle.records.specs.Read.{binding_zone}
-use Rattle.records.specs.Records.{Parallel, Sequential, Assign, Body, BL, BQ, BV, BC, BM, BF, Binding, BB, list_of, body_bytes, bindings_count}
+use Rattle.records.specs.Records.{Body, BL, BQ, BV, BC, BM, BF, Binding, BB, list_of, body_bytes, bindings_count}
+use Rattle.records.specs.declared.Kind.TheVariants.{Parallel, Sequential, Assign}
 use Rattle.records.specs.Valid.{IsLet}
 use Rattle.records.specs.Views.{SeesLet}
 use Rattle.records.specs.declared.LetView.{LetView}

@@ -10,7 +10,9 @@ use native.Mathlib.Omega.{arith}
 use lib.ListN.{length, get_or, set, length-map}
 use lib.Seq.{get_or-set_other}
 use Rattle.records.specs.Depth.{levels, depth, binding_depth, bindings_depth, helper_depth, form_depth, list_depth}
-use Rattle.records.specs.Records.{Kind, Parallel, Sequential, Assign, Body, BL, BQ, BV, BC, BM, BF, Binding, BB, Bindings, []ᵍ, ◌∷ᵍ◌, Helper, HC, HM, HD, HN, HR, Form, CF, to_bindings, list_of, bindings_count}
+use Rattle.records.specs.Records.{Body, BL, BQ, BV, BC, BM, BF, Binding, BB, Bindings, []ᵍ, ◌∷ᵍ◌, Helper, HC, HM, HD, HN, HR, Form, CF, to_bindings, list_of, bindings_count}
+use Rattle.records.specs.declared.Kind.{Kind}
+use Rattle.records.specs.declared.Kind.TheVariants.{Parallel, Sequential, Assign}
 use Rattle.ordering.specs.Lawful.{◌is_in◌}
 use Rattle.ordering.specs.Toposort.{ordered}
 use Rattle.ordering.specs.Words.{item, items, toposort_assign_bindings}

@@ -12,7 +12,9 @@ use Rattle.names.proofs.Parts.{into}
 use Rattle.names.proofs.Places.{at_place, at_join}
 use Rattle.records.specs.StepAnswer.{gives, refused}
 use Rattle.records.specs.Lists.{joined}
-use Rattle.records.specs.Records.{Loc, Kind, Assign, Body, BL, BQ, BV, BC, BM, BF, body_bytes, Binding, binding_bytes, Bindings, bindings_bytes, list_of, to_bindings}
+use Rattle.records.specs.Records.{Loc, Body, BL, BQ, BV, BC, BM, BF, body_bytes, Binding, binding_bytes, Bindings, bindings_bytes, list_of, to_bindings}
+use Rattle.records.specs.declared.Kind.{Kind}
+use Rattle.records.specs.declared.Kind.TheVariants.{Assign}
 use Rattle.records.specs.Valid.{IsLet}
 use Rattle.records.specs.declared.Step.{Step}
 use Rattle.records.proofs.Lists.{list_count, list_bytes}

@@ -11,8 +11,10 @@ use lib.ListN.{length, get_or, length-map}
 use Rattle.names.specs.Names.{Bytes, ascii, same, name_limit, gensym}
 use Rattle.names.specs.Maps.{NameMap}
 use Rattle.names.specs.declared.Refusal.{Refusal}
+use Rattle.names.specs.Refusals.{reason_number}
 use Rattle.records.specs.Limits.{level_limit}
-use Rattle.records.specs.Records.{Loc, Sexp, SN, SC, SI, SQ, SA, Parallel, Sequential, Assign, Pattern, Name, Complex, Body, BL, BQ, BV, BC, BM, BF, Bodies, []ᵇ, ◌∷ᵇ◌, Tail, no_tail, tail, Binding, BB, Bindings, to_bindings, list_of}
+use Rattle.records.specs.Records.{Loc, Sexp, SN, SC, SI, SQ, SA, Pattern, Name, Complex, Body, BL, BQ, BV, BC, BM, BF, Bodies, []ᵇ, ◌∷ᵇ◌, Tail, no_tail, tail, Binding, BB, Bindings, to_bindings, list_of}
+use Rattle.records.specs.declared.Kind.TheVariants.{Parallel, Sequential, Assign}
 use Rattle.records.proofs.Complete.{bindings_same}
 use Rattle.ordering.specs.Toposort.{Toposorted, ordered, deadlock}
 use Rattle.ordering.specs.Words.{toposort_assign_bindings}
@@ -49,8 +51,8 @@ module _ (F : ℕ) where
   -- another refusal
   pub record Stopped (list : List Visit) (r : Refusal) : Type 0 where
     pub all_ordered : All HasOrder list
-    pub late : 5 < r.number
-    pub not_8 : r.number ≡ 8 → ⊥
+    pub late : 5 < reason_number r.reason
+    pub not_8 : reason_number r.reason ≡ 8 → ⊥
 
   abbrev pub Ends : List Visit → Refusal → Type 0
   Ends list r = Deadlocked list r ⊎ Stopped list r
@@ -91,7 +93,7 @@ module _ (F : ℕ) where
       go (refused log r) f = f
 
   -- a refusal that is not 5
-  other : {r : Refusal} → 5 < r.number → (r.number ≡ 8 → ⊥) → All Good [] × Ends [] r
+  other : {r : Refusal} → 5 < reason_number r.reason → (reason_number r.reason ≡ 8 → ⊥) → All Good [] × Ends [] r
   other h z = (all_none, inr (record { all_ordered = all_none; late = h; not_8 = z }))
 
   pub sound_out : {A : Type 0} → Sound {A = A} (refuse out_of_fuel)

@@ -15,7 +15,8 @@ use Rattle.records.specs.Depth.{binding_depth}
 use Rattle.records.specs.Limits.{most_longest}
 use Rattle.records.specs.Lists.{joined, Each}
 use Rattle.records.specs.Parts.{ValidBinding}
-use Rattle.records.specs.Records.{Loc, Sexp, sexp_bytes, Name, Complex, Assign, Body, BL, BQ, BV, BC, BM, BF, body_bytes, Binding, BB, binding_bytes, bindings_bytes, list_of, to_bindings}
+use Rattle.records.specs.Records.{Loc, Sexp, sexp_bytes, Name, Complex, Body, BL, BQ, BV, BC, BM, BF, body_bytes, Binding, BB, binding_bytes, bindings_bytes, list_of, to_bindings}
+use Rattle.records.specs.declared.Kind.TheVariants.{Assign}
 use Rattle.records.specs.Valid.{ValidSexp, BindingNoMod, IsLet}
 use Rattle.records.specs.declared.Step.{Step}
 use Rattle.records.specs.declared.Zone.{Zone}

@@ -1,12 +1,13 @@
 -- Demand 3: what holds of all the assigns that a call's walk reaches, and of the refusal that the call answers.
 -- Assumes nothing.
-use Rattle.std.specs.Prelude.{◌≡◌, ◌↔◌, ◌⊎◌, List, [], ◌∷◌, ◌++◌, map, reverse, ℕ, ◌≤◌, length, get_or}
+use Rattle.std.specs.Prelude.{Option, ◌≡◌, ◌↔◌, ◌⊎◌, List, [], ◌∷◌, ◌++◌, map, reverse, ℕ, ◌≤◌, length, get_or}
 use Rattle.std.proofs.Math.Option.{some}
 use Rattle.names.specs.Maps.{NameMap}
-use Rattle.names.specs.Refusals.{place_at}
+use Rattle.names.specs.Refusals.{place_at, refusal_number, refusal_place}
 use Rattle.names.specs.declared.Refusal.{Refusal}
 use Rattle.records.specs.Limits.{level_limit}
-use Rattle.records.specs.Records.{loc_number, Assign, Body, BL, Binding, to_bindings}
+use Rattle.records.specs.Records.{loc_number, Body, BL, Binding, to_bindings}
+use Rattle.records.specs.declared.Kind.TheVariants.{Assign}
 use Rattle.ordering.specs.Toposort.{ordered}
 use Rattle.ordering.specs.Lawful.{◌is_in◌, Full}
 use Rattle.ordering.specs.Words.{items, toposort_assign_bindings}
@@ -52,17 +53,17 @@ module _ (F : ℕ) where
     pub counter : ℕ
     pub given_back : (x : ℕ) → (walk F level_limit).args_bodyform (record_of e) e.counter x ≡ done log back counter x
 
-  -- of the list of a call, and the refusal that it answers (its number is 0 where nothing is refused)
-  pub record AssignsOrdered (list : List Visit) (r : Refusal) : Type 0 where
+  -- of the list of a call, and the refusal that it answers, if any (its number is 0 where nothing is refused)
+  pub record AssignsOrdered (list : List Visit) (r : Option Refusal) : Type 0 where
     -- the pass orders the bindings exactly when there is such an order
     pub orders : (e : Visit) → e is_in list → Ordered e ↔ HasOrder e
     -- the call refuses as deadlocked exactly when it reaches an assign with no such order
-    pub refuses : (r.number ≡ 5) ↔ ((e : Visit) × (e is_in list) × ¬ HasOrder e)
+    pub refuses : (refusal_number r ≡ 5) ↔ ((e : Visit) × (e is_in list) × ¬ HasOrder e)
     -- with that assign's place, and it reaches none after it
-    pub last : (before after : List Visit) (e : Visit) → list ≡ before ++ (e ∷ after) → ¬ HasOrder e → (r.place ≡ place_at (loc_number e.loc)) × (after ≡ [])
+    pub last : (before after : List Visit) (e : Visit) → list ≡ before ++ (e ∷ after) → ¬ HasOrder e → (refusal_place r ≡ place_at (loc_number e.loc)) × (after ≡ [])
     -- each whose use is finished comes back so
     pub finished : (e : Visit) → e is_in list → (back : Body) → e.back ≡ some back → Finished e back
     -- in a call that is accepted, or refused for its buffer alone, each use is finished
-    pub all_finished : (r.number ≡ 0) ⊎ (r.number ≡ 8) → (e : Visit) → e is_in list → (back : Body) × (e.back ≡ some back)
+    pub all_finished : (refusal_number r ≡ 0) ⊎ (refusal_number r ≡ 8) → (e : Visit) → e is_in list → (back : Body) × (e.back ≡ some back)
     -- a call refused before its walk reaches none
-    pub none_reached : 1 ≤ r.number → r.number ≤ 4 → list ≡ []
+    pub none_reached : 1 ≤ refusal_number r → refusal_number r ≤ 4 → list ≡ []

@@ -5,8 +5,10 @@ use Rattle.std.proofs.Math.Option.{Option, none, some}
 use Rattle.names.specs.Names.{Bytes}
 use Rattle.names.specs.Maps.{NameMap}
 use Rattle.names.specs.Refusals.{refusing, place_at}
+use Rattle.names.specs.declared.Reason.TheVariants.{Deadlock}
 use Rattle.names.specs.declared.Refusal.{Refusal}
-use Rattle.records.specs.Records.{Loc, loc_number, Sexp, Parallel, Sequential, Assign, Name, Complex, Body, BL, BQ, BV, BC, BM, BF, Bodies, []ᵇ, ◌∷ᵇ◌, Tail, no_tail, tail, Binding, BB, Bindings, []ᵍ, ◌∷ᵍ◌, to_bindings, list_of, byte}
+use Rattle.records.specs.Records.{Loc, loc_number, Sexp, Name, Complex, Body, BL, BQ, BV, BC, BM, BF, Bodies, []ᵇ, ◌∷ᵇ◌, Tail, no_tail, tail, Binding, BB, Bindings, []ᵍ, ◌∷ᵍ◌, to_bindings, list_of, byte}
+use Rattle.records.specs.declared.Kind.TheVariants.{Parallel, Sequential, Assign}
 pub use Rattle.ordering.specs.Assign.{no_binding}
 use Rattle.ordering.specs.Toposort.{ordered, deadlock}
 use Rattle.ordering.specs.Words.{toposort_assign_bindings}
@@ -42,7 +44,7 @@ log_assign (BF l k ca c a b) m = m
 
 -- 5: an assign with no order, its place the L
 abbrev pub deadlocked : Loc → Refusal
-deadlocked l = refusing 5 (place_at (loc_number l))
+deadlocked l = refusing Deadlock (place_at (loc_number l))
 
 -- In-body of a BQ: an atom alone goes by the map
 unfoldable pub rename_in_quoted : NameMap → Sexp → M Body

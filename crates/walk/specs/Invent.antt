@@ -4,6 +4,7 @@ use Rattle.std.specs.Prelude.{Bool, true, false, [], ◌∷◌, ℕ, ◌+◌, le
 use Rattle.names.specs.Names.{Bytes, ascii, same, name_limit, gensym}
 use Rattle.names.specs.Maps.{NameMap}
 use Rattle.names.specs.Refusals.{placeless}
+use Rattle.names.specs.declared.Reason.TheVariants.{LongName}
 use Rattle.names.specs.declared.Refusal.{Refusal}
 use Rattle.records.specs.Records.{Sexp, SN, SC, SI, SQ, SA}
 use Rattle.walk.specs.RenameInCons.{rename_in_cons}
@@ -11,7 +12,7 @@ use Rattle.walk.specs.Steps.{M, made, done, refused, ◌>>=◌, ret, sexp_size, 
 
 -- 6: a made name that is too long
 abbrev pub name_too_long : Refusal
-name_too_long = placeless 6
+name_too_long = placeless LongName
 
 -- `gensym` at the walk's counter; 6 where the made name is too long
 unfoldable pub draw : Bytes → M Bytes

@@ -3,7 +3,8 @@
 -- Assumes nothing.
 use Rattle.std.specs.Prelude.{◌≡◌, List, ◌++◌, ℕ, ◌+◌, length, take, drop}
 use Rattle.names.specs.Names.{Bytes, ascii}
-use Rattle.records.specs.Records.{mark_width, Sexp, Parallel, Sequential, Body, BL, BQ, BV, BC, BM, BF, Binding, byte, kind_field, list_of, loc_width, sexp_bytes, body_bytes, binding_bytes}
+use Rattle.records.specs.Records.{mark_width, Sexp, Body, BL, BQ, BV, BC, BM, BF, Binding, byte, kind_field, list_of, loc_width, sexp_bytes, body_bytes, binding_bytes}
+use Rattle.records.specs.declared.Kind.TheVariants.{Parallel, Sequential}
 use Rattle.records.specs.Valid.{SexpFields, ValidBody, IsLet}
 use Rattle.records.specs.declared.Step.{Step}
 use Rattle.records.specs.Lists.{joined, Each}

@@ -7,7 +7,8 @@ use Rattle.names.specs.Segments.{At, SameOutside}
 use Rattle.records.specs.StepAnswer.{Gives}
 use Rattle.records.specs.Limits.{most_longest}
 use Rattle.records.specs.Lists.{joined, Each}
-use Rattle.records.specs.Records.{Loc, Parallel, Pattern, pattern_field, Body, BL, body_bytes, Binding, BB, binding_bytes, Bindings, to_bindings, list_of}
+use Rattle.records.specs.Records.{Loc, Pattern, pattern_field, Body, BL, body_bytes, Binding, BB, binding_bytes, Bindings, to_bindings, list_of}
+use Rattle.records.specs.declared.Kind.TheVariants.{Parallel}
 use Rattle.records.specs.Valid.{ValidPattern, BindingFields, IsLet}
 use Rattle.records.specs.declared.Step.{Step}
 use Rattle.walk.specs.Arena.{MapAt, outcome}

@@ -3,7 +3,8 @@
 -- Assumes nothing.
 use Rattle.std.specs.Prelude.{List, [], ◌∷◌, ◌++◌, ◌⊎◌, ◌≡◌, ℕ, suc, ◌<◌, length, replicate}
 use Rattle.names.specs.Names.{Bytes}
-use Rattle.records.specs.Records.{Loc, Parallel, Body, BL, Binding, Bindings, list_of}
+use Rattle.records.specs.Records.{Loc, Body, BL, Binding, Bindings, list_of}
+use Rattle.records.specs.declared.Kind.TheVariants.{Parallel}
 use Rattle.ordering.specs.Assign.{body_at}
 use Rattle.ordering.specs.Scope.{Spot, in_binding, in_let_body, InScope}
 

@@ -5,6 +5,7 @@ use Rattle.std.specs.Prelude.{true, false, List, [], ◌∷◌, ◌++◌, ◌≡
 use Rattle.std.proofs.Math.Option.{Option}
 use Rattle.names.specs.Names.{Bytes}
 use Rattle.names.specs.Refusals.{placeless}
+use Rattle.names.specs.declared.Reason.TheVariants.{LongRecord, ShortPage}
 use Rattle.names.specs.declared.Refusal.{Refusal}
 use Rattle.records.specs.Records.{Loc, Sexp, Body, Binding, Helper, Form, sexp_bytes, body_bytes, helper_bytes, form_bytes}
 
@@ -82,13 +83,13 @@ module _ {A : Type 0} where
   unfoldable pub refuse : Refusal → M A
   refuse r c x = refused [] r
 
--- the refusal of a rule that no call meets: a record deeper than the fuel (proofs/Limits.antt)
+-- the refusal of a rule that no call meets: a record deeper than the fuel (proofs/Limits.antt). Its reason is one for which no walk refuses
 unfoldable pub out_of_fuel : Refusal
-out_of_fuel = placeless 99
+out_of_fuel = placeless ShortPage
 
 -- 7: a sum or a record that is longer than it may be
 abbrev pub over_long : Refusal
-over_long = placeless 7
+over_long = placeless LongRecord
 
 -- lengths in bytes
 unfoldable pub sexp_size : Sexp → ℕ

@@ -9,7 +9,8 @@ use Rattle.names.specs.declared.Refusal.{Refusal}
 use Rattle.records.specs.StepAnswer.{refuses, Gives}
 use Rattle.records.specs.Depth.{depth}
 use Rattle.records.specs.Limits.{most_longest}
-use Rattle.records.specs.Records.{Parallel, Body, BL, BQ, BV, BC, BM, BF, body_bytes, bindings_count}
+use Rattle.records.specs.Records.{Body, BL, BQ, BV, BC, BM, BF, body_bytes, bindings_count}
+use Rattle.records.specs.declared.Kind.TheVariants.{Parallel}
 use Rattle.records.specs.Valid.{ValidBody, NoMod, IsLet}
 use Rattle.records.specs.declared.Step.{Step}
 use Rattle.records.specs.declared.Zone.{Zone}

@@ -1,8 +1,11 @@
 // Own (`rename_args_bodyform`) and In-body (`rename_in_bodyform`) of the B records: one cycle of calls,
 // in which `depth` falls. The record stands at the start of mem, and its result goes to `free`. In-body's
 // map stands at the end of mem; Own is lent memory that ends where the maps of others start.
+//
+// What both do alike stands once, and `owning` says under which. It is no closure: in a cycle of calls
+// its clauses would have to be written out at each use.
 ghost use Rattle.std.specs.Prelude.{true, false};
-ghost use Rattle.records.specs.Records.{Parallel, Sequential, Assign};
+ghost use Rattle.records.specs.declared.Kind.TheVariants.{Parallel, Sequential, Assign};
 ghost use Rattle.records.specs.Valid.{IsLet};
 ghost use Rattle.walk.specs.AssignWalks.{OrderedReady, TurnedReady, Turns, BindingsReady, MakesBindings, BindingReady, MakesBinding, ComplexReady, MakesComplex, NamedReady, MakesNamed, RemakeReady, Remakes};
 ghost use Rattle.walk.specs.CallWalks.{ElementsReady, WalksElements, TailReady, WalksTail};
@@ -19,15 +22,15 @@ use crate::places::{binding_starts, goes_back, put_back};
 use crate::scopes::{BINDING_HEAD, let_room, make_bindings_unique, new_args, put_head};
 use crate::substitute::rename_in_cons;
 use crate::{Made, Piece, Task};
-use names::Refusal;
 use names::bytes::{copy, number};
 use names::refusals::{place_at, refusing};
+use names::{Reason, Refusal};
 use ordering::assign::toposort_assign_bindings;
 use ordering::{BINDING_LIMIT, Order};
 use records::bodies::{call_view, lambda_view, let_view};
 use records::past::past_pattern;
 use records::record::body_mark;
-use records::{BodyMark, CONS_LIMIT, LOC_WIDTH, MARK_WIDTH, Step};
+use records::{BodyMark, CONS_LIMIT, Kind, LOC_WIDTH, MARK_WIDTH, Step};
 
 // How many times F the head of an assign and its made bindings take; each binding is made behind.
 const BINDINGS_ROOM: usize = 3;
@@ -203,11 +206,10 @@ fn lets(mem: &mut [u8], t: Task) -> Result<Step, Refusal>
     requires { BodyReady IsBinder true mem.old t }
     ensures { Walks IsBinder true mem.old mem.new t result }
 {
-    let k = mem[MARK_WIDTH];
-    match k {
-        0 => parallel(mem, t),
-        1 => chain(mem, t),
-        _ => assign(mem, t),
+    match Kind::from(mem[MARK_WIDTH]) {
+        Kind::Parallel => parallel(mem, t),
+        Kind::Sequential => chain(mem, t),
+        Kind::Assign => assign(mem, t),
     }
 }
 
@@ -390,7 +392,8 @@ fn assign(mem: &mut [u8], t: Task) -> Result<Step, Refusal>
     let o = toposort_assign_bindings(&mem[..f]);
     if o.placed < o.count {
         let loc = number(mem, MARK_WIDTH + 1, LOC_WIDTH);
-        return Err(refusing(5, place_at(loc as u64)));
+        // A cast: Rust has no From of usize for u64, and TryFrom would answer an error that cannot come.
+        return Err(refusing(Reason::Deadlock, place_at(loc as u64)));
     }
     sorted(mem, o, t)
 }
@@ -468,7 +471,7 @@ fn assign_all(mem: &mut [u8], row: &[u8], starts: &[usize], t: Task) -> Result<M
     let mut map = 0;
     let mut counter = t.counter;
     for index in row {
-        let i = *index as usize;
+        let i = usize::from(*index);
         let at = starts[i];
         let n = starts[i + 1] - at;
         let next = Task {

@@ -1,5 +1,8 @@
 // The calls Whole form, Children only and Single helper: the record is copied into work memory and
 // renamed there, and the result is written to the result buffer.
+//
+// Each call has a function of its own, since callers name it and its claim is about its own walk. What
+// they do alike stands once, and `call` says for which: a closure's clauses would be those of `walk`.
 ghost use Rattle.std.specs.Prelude.{◌≡◌, ◌≤◌, length, take};
 ghost use Rattle.names.specs.CallAnswer.{delivered};
 ghost use Rattle.walk.specs.Assigns.{AssignsOrdered};
@@ -11,7 +14,7 @@ use crate::{Request, Task};
 use names::bytes::put;
 use names::call::{accepted, refused};
 use names::refusals::placeless;
-use names::{Answer, Refusal};
+use names::{Answer, Reason, Refusal};
 use records::input::open_input;
 use records::{LEVEL_LIMIT, Step, Wanted};
 
@@ -119,7 +122,7 @@ fn delivered(s: Step, counter: u64, made: &[u8], res: &mut [u8]) -> Answer
 {
     let len = s.written;
     if res.len() < len {
-        return refused(placeless(8), counter);
+        return refused(placeless(Reason::ShortBuffer), counter);
     }
     put(res, 0, &made[..len]);
     accepted(s.counter, 0, len)

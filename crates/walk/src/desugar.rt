@@ -1,7 +1,8 @@
 // A sequential let as nested parallel lets, the first binding outermost.
 ghost use Rattle.std.specs.Prelude.{◌+◌, ◌≤◌, length};
 ghost use Rattle.names.specs.Segments.{Filled};
-ghost use Rattle.records.specs.Records.{head_width, Sequential, body_bytes};
+ghost use Rattle.records.specs.Records.{head_width, body_bytes};
+ghost use Rattle.records.specs.declared.Kind.TheVariants.{Sequential};
 ghost use Rattle.records.specs.Valid.{IsLet};
 ghost use Rattle.walk.specs.Arena.{Asks};
 ghost use Rattle.walk.specs.Leaves.{Desugars, Nests, ValidKind, ValidLeft, left_bytes, let_head, let_of};

@@ -3,6 +3,9 @@
 // calls, in which `depth` falls. As in `bodies` the record stands at the start of mem, its result goes
 // to `free`, and the map of the in-rules stands at the end of mem. Each of these records is a head,
 // perhaps args, and a rest; the head is kept.
+//
+// What they do alike stands once: `kind` says of which record, `way` and `owning` by which rules. They
+// are no closures: in a cycle of calls their clauses would have to be written out at each use.
 ghost use Rattle.std.specs.Prelude.{Bool, true, false, ◌≡◌};
 ghost use Rattle.walk.specs.FormWalks.{TreeReady, WalksTree, KeepsHelper, WalksChildren, AfterReady, WalksAfter, RenewedReady, WalksRenewed, BothRestReady, WalksBothRest, RestReady, WalksRest, HelpersReady, WalksHelpers, ChildReady, WalksChild, by_args, Sumable, AddsResult, new_sum};
 ghost use Rattle.walk.specs.declared.Child.TheVariants.{Helperform, Compileform};

@@ -5,16 +5,16 @@ ghost use Rattle.walk.specs.Steps.{over_long};
 ghost use Rattle.walk.specs.Walking.{Finishes};
 
 use crate::Task;
-use names::Refusal;
 use names::bytes::copy;
 use names::refusals::placeless;
+use names::{Reason, Refusal};
 use records::Step;
 
 // The refusal of a result that is longer than it may be.
 pub fn over_long() -> Refusal
     ensures { result ≡ over_long }
 {
-    placeless(7)
+    placeless(Reason::LongRecord)
 }
 
 // A finished record of so many bytes, unless it is longer than F.

@@ -21,7 +21,8 @@ pub mod substitute;
 
 // What a step is given beside the record at the start of memory: where its result goes, how many
 // bytes the map at the end of memory has, how long the result may be, how deep the record may nest
-// (the SC of an S record, the levels of a B record), and the counter.
+// (the SC of an S record, the levels of a B record), and the counter. Memory stands beside it and not
+// in it, since each step lends a part of memory from the next record's mark on.
 #[derive(Clone, Copy)]
 pub struct Task {
     pub free: usize,
@@ -33,7 +34,7 @@ pub struct Task {
 
 // How far names are drawn: how many bytes the map has, the counter, and where the next record
 // stands.
-#[derive(Clone, Copy)]
+#[derive(Clone, Copy, PartialEq, Eq)]
 pub struct Growth {
     pub len: usize,
     pub counter: u64,

@@ -18,7 +18,7 @@ pub fn binding_starts(s: &[u8], first: usize, starts: &mut [usize])
     }
 }
 
-// Whether the element of this index is put back: element 0 under In-body.
+// Whether the element of this index is put back: element 0 under In-body. A test: no step is chosen.
 pub fn goes_back(owning: bool, i: u8) -> bool
     ensures { result ≡ backs owning i }
 {

@@ -1,4 +1,5 @@
-// How an S record is substituted, by its kind and its head.
+// How an S record is substituted, by its kind and its head. Where the head starts comes from one view and
+// goes into one plan: a struct that says so would be made at each call to be taken apart.
 ghost use Rattle.std.specs.Prelude.{true, ◌≡◌};
 ghost use Rattle.names.specs.Segments.{At};
 ghost use Rattle.records.specs.Records.{Sexp, sexp_bytes};
@@ -20,14 +21,9 @@ fn nilp(s: &[u8]) -> bool
     let v = sexp_view(s);
     match v {
         SexpView::Nil(_) => true,
-        SexpView::Pair(_) => false,
-        SexpView::Integer(n) => {
-            let start = n.start;
-            let end = n.end;
-            all_zero(&s[start..end])
-        }
+        SexpView::Integer(n) => all_zero(&s[n.start..n.end]),
         SexpView::Text(n) | SexpView::Atom(n) => n.start == n.end,
-        SexpView::Unknown => false,
+        SexpView::Pair(_) | SexpView::Unknown => false,
     }
 }
 
@@ -39,9 +35,7 @@ fn is_atom(s: &[u8], word: &[u8]) -> bool
     let SexpView::Atom(n) = v else {
         return false;
     };
-    let start = n.start;
-    let end = n.end;
-    same(&s[start..end], word)
+    same(&s[n.start..n.end], word)
 }
 
 // Where the element starts if the S record that s starts with is a proper list of one.
@@ -82,7 +76,7 @@ fn in_qq(s: &[u8], head: usize) -> Plan
     Plan::Parts
 }
 
-// The plan for an SC outside `qq`; with qq the head `qq` is looked into.
+// The plan for an SC outside `qq`; with qq, a flag of the Rust, the head `qq` is looked into.
 fn in_cons(s: &[u8], head: usize, qq: bool) -> Plan
     requires { HeadAt s.now head }
     ensures { PlansPair (rename_in_cons qq) s.now result }

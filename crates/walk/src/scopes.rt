@@ -1,5 +1,5 @@
 // New names for args and patterns: Invent from an empty map, then Substitute by that map, which stays
-// at the end of memory.
+// at the end of memory. `qq` is the flag that the Rust's `rename_in_cons` has, and is handed on to it.
 ghost use Rattle.std.specs.Prelude.{◌≡◌, ◌≤◌};
 ghost use Rattle.records.specs.Limits.{cons_limit, most_longest};
 ghost use Rattle.records.specs.Records.{sexp_bytes};
@@ -16,7 +16,7 @@ use names::bytes::{copy, number};
 use names::{NAME_WIDTH, Refusal};
 use records::past::past_pattern;
 use records::skip::past_record;
-use records::{CONS_LIMIT, Family, HEAD_WIDTH, LOC_WIDTH};
+use records::{CONS_LIMIT, Family, HEAD_WIDTH, LOC_WIDTH, NameView};
 
 // The bytes of a BB before its pattern.
 pub const BINDING_HEAD: usize = HEAD_WIDTH + LOC_WIDTH;
@@ -62,8 +62,9 @@ fn new_name(mem: &mut [u8], free: usize, counter: u64) -> Result<Drawn, Refusal>
     requires { NameReady mem.old free counter }
     ensures { DrawsName mem.old mem.new free counter result }
 {
-    let end = 1 + NAME_WIDTH + number(mem, 1, NAME_WIDTH);
-    let g = push(mem, 1 + NAME_WIDTH, end, 0, counter)?;
+    let start = 1 + NAME_WIDTH;
+    let end = start + number(mem, 1, NAME_WIDTH);
+    let g = push(mem, NameView { start, end }, 0, counter)?;
     let made = g.len - (end - 1);
     let at = mem.len() - made;
     mem[free] = 0;
@@ -110,7 +111,8 @@ pub fn let_room(count: u8, f: usize) -> usize
     5 * f
 }
 
-// What a new pattern of w bytes adds to the sum: the S record of a Complex one, nothing for a Name.
+// What a new pattern of w bytes adds to the sum: the S record of a Complex one, nothing for a Name. The
+// kind is the byte in the record.
 fn summed(kind: u8, w: usize) -> usize
     requires { 1 ≤ w }
     ensures { result ≡ added kind w }
@@ -159,7 +161,7 @@ pub fn make_bindings_unique(
 }
 
 // Writes a binding up to its body, and answers how many bytes: with the pattern that is kept aside, or as
-// it is.
+// it is. `owning` as in `bodies`, which hands it on.
 pub fn put_head(
     mem: &mut [u8],
     at: usize,

@@ -38,8 +38,7 @@ fn rename_name(mem: &mut [u8], n: NameView, task: Task) -> Result<Step, Refusal>
     requires asks { Asks sexp_bytes SexpFields mem.old task }
     ensures { Substitutes rename_atom mem.old mem.new task result }
 {
-    let start = n.start;
-    let end = n.end;
+    let NameView { start, end } = n;
     let top = mem.len() - task.map;
     let mut name = [0u8; NAME_LIMIT];
     let w = &mem[..];
@@ -168,7 +167,7 @@ fn rename(mem: &mut [u8], task: Task, quasi: Quasi) -> Result<Step, Refusal>
     }
 }
 
-// Substitute (`rename_in_cons`); with qq the head `qq` is looked into.
+// Substitute (`rename_in_cons`); with qq, a flag of the Rust, the head `qq` is looked into.
 pub fn rename_in_cons(mem: &mut [u8], task: Task, qq: bool) -> Result<Step, Refusal>
     requires { Asks sexp_bytes (Held task.depth) mem.old task }
     ensures { Substitutes (rename_in_cons qq) mem.old mem.new task result }

@@ -27,8 +27,9 @@ use Prim.Native.Nat.{ℕ, ◌+◌, ◌*◌, ◌-◌}
 use Prim.Native.String.{String, [] as []ˢ, ◌∷◌ as ◌∷ˢ◌}
 use lib.Dec.{ltb}
 use lib.ListN.{length, replicate}
-use Rattle.names.specs.CallAnswer.{Result, name_call}
+use Rattle.names.specs.CallAnswer.{CallResult, name_call}
 use Rattle.names.specs.Names.{Bytes}
+use Rattle.names.specs.Refusals.{refusal_number, refusal_place}
 use Rattle.ordering.specs.OrderCall.{order_call}
 use Rattle.walk.specs.Calls.{computing_all, whole_call, children_call, helper_call}
 
@@ -45,7 +46,7 @@ hex (c ∷ˢ []ˢ) = []
 hex (c ∷ˢ d ∷ˢ s) = (16 * digit (code c) + digit (code d)) ∷ hex s
 
 -- F, work, counter, input, result buffer
-abbrev pub answer : Call → ℕ → ℕ → ℕ → Bytes → Bytes → Result
+abbrev pub answer : Call → ℕ → ℕ → ℕ → Bytes → Bytes → CallResult
 answer name f w c input buffer = name_call input c buffer
 answer order f w c input buffer = order_call f w c input buffer
 answer whole f w c input buffer = whole_call f w c input buffer
@@ -56,8 +57,8 @@ answer helper f w c input buffer = helper_call f w c input buffer
 abbrev pub Seen : Type 0
 Seen = ℕ × ℕ × ℕ × ℕ × ℕ × Bytes
 
-abbrev pub seen : Result → Seen
-seen r = (r.0.refusal.number, r.0.refusal.place.start, r.0.counter, r.0.rounds, r.0.len, r.1)
+abbrev pub seen : CallResult → Seen
+seen r = (refusal_number r.0.refusal, (refusal_place r.0.refusal).start, r.0.counter, r.0.rounds, r.0.len, r.1)
 
 -- with a buffer of b bytes 7
 abbrev pub run : Call → ℕ → ℕ → ℕ → ℕ → String → Seen

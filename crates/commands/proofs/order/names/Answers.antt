@@ -7,7 +7,8 @@ use lib.ListN.{length, take}
 use lib.Seq.{length-take-le}
 use Rattle.names.specs.Names.{Bytes}
 use Rattle.records.specs.declared.LetView.{LetView}
-use Rattle.records.specs.Records.{Loc, Kind, Body, Bindings}
+use Rattle.records.specs.Records.{Loc, Body, Bindings}
+use Rattle.records.specs.declared.Kind.{Kind}
 use Rattle.records.specs.Views.{SeesLet}
 use Rattle.ordering.specs.Assign.{Let, FindsAllNames}
 use Rattle.ordering.specs.Needs.{binding_limit}
@@ -17,9 +18,9 @@ use Rattle.ordering.proofs.Collected.{provisions_given}
 use Rattle.commands.proofs.order.names.Goals as goal
 
 -- what was listed, where the places of the bodies take the front of an array xs
-listed : {s : Bytes} {v : LetView} {k : Kind} {l : Loc} {w h : Bytes} {bs : Bindings} {b : Body} {given bodies : List ℕ} {m n : ℕ} (xs : List ℕ)
-    → m ≡ v.count → SeesLet s v → Let s k l w h bs b → binding_limit ≤ length xs → FindsAllNames s v.first (length (take m xs)) given bodies n
-    → (n ≤ length given) × Given s (take n given)
+listed : {s : Bytes} {v : LetView} {k : Kind} {l : Loc} {w h : Bytes} {bs : Bindings} {b : Body} {entries bodies : List ℕ} {m n : ℕ} (xs : List ℕ)
+    → m ≡ v.count → SeesLet s v → Let s k l w h bs b → binding_limit ≤ length xs → FindsAllNames s v.first (length (take m xs)) entries bodies n
+    → (n ≤ length entries) × Given s (take n entries)
 listed {m = m} xs count sees at room finds =
     let w = let_bound count sees at in
     let f = finds _ (bound_of _ (sym (length-take-le m xs (omega (arith, w.1)))) w.0) in
@@ -36,22 +37,15 @@ find_names-n-requires-clause-bound g c =
     let w = let_bound c.from-count.ensures c.let_view-v.ensures c.requires.fact.6 in
     (_, bound_of _ (sym (length-take-le _ _ w.1)) w.0)
 
+pub slice_bounds-entries-end : goal.slice_bounds-entries-end
+slice_bounds-entries-end g c = (listed _ c.from-count.ensures c.let_view-v.ensures c.requires.fact.6 (omega arith) c.find_names-n.ensures).0
+
 pub slice_bounds-given-end : goal.slice_bounds-given-end
-slice_bounds-given-end g c = (listed _ c.from-count.ensures c.let_view-v.ensures c.requires.fact.6 (omega arith) c.find_names-n.ensures).0
-
-pub slice_bounds-print_stuck-end : goal.slice_bounds-print_stuck-end
-slice_bounds-print_stuck-end g c =
+slice_bounds-given-end g c =
     sym (length-take-le _ _ (listed _ c.from-count.ensures c.let_view-v.ensures c.requires.fact.6 (omega arith) c.find_names-n.ensures).0)
 
-pub print_stuck-requires : goal.print_stuck-requires
-print_stuck-requires g c = (listed _ c.from-count.ensures c.let_view-v.ensures c.requires.fact.6 (omega arith) c.find_names-n.ensures).1
+pub invariant_of-given : goal.invariant_of-given
+invariant_of-given g c = record { given = (listed _ c.from-count.ensures c.let_view-v.ensures c.requires.fact.6 (omega arith) c.find_names-n.ensures).1 }
 
-pub slice_bounds-given-end-else-rounds-eq0 : goal.slice_bounds-given-end-else-rounds-eq0
-slice_bounds-given-end-else-rounds-eq0 g c = (listed _ c.from-count.ensures c.let_view-v.ensures c.requires.fact.6 (omega arith) c.find_names-n.ensures).0
-
-pub slice_bounds-print_ordered-end : goal.slice_bounds-print_ordered-end
-slice_bounds-print_ordered-end g c =
-    sym (length-take-le _ _ (listed _ c.from-count.ensures c.let_view-v.ensures c.requires.fact.6 (omega arith) c.find_names-n.ensures).0)
-
-pub print_ordered-requires : goal.print_ordered-requires
-print_ordered-requires g c = (listed _ c.from-count.ensures c.let_view-v.ensures c.requires.fact.6 (omega arith) c.find_names-n.ensures).1
+pub invariant_of-given-else-rounds-eq0 : goal.invariant_of-given-else-rounds-eq0
+invariant_of-given-else-rounds-eq0 g c = record { given = (listed _ c.from-count.ensures c.let_view-v.ensures c.requires.fact.6 (omega arith) c.find_names-n.ensures).1 }

@@ -1,23 +1,20 @@
--- `commands::ready::ready` meets its contract. The invariant: all needs are met exactly where those from `k` on are. Assumes nothing.
-use mathlib.Core.Path.{refl}
+-- `commands::ready::ready` meets its contract: each need is tested. Assumes nothing.
+use mathlib.Core.Path.{ap, ◌∙◌}
 use native.Mathlib.Omega.{arith}
-use Rattle.commands.proofs.Readiness.{not_met, one_met, all_met, tells_ready}
+use borrow.Author.Rules.{rules}
+use borrow.Author.Tests.{tests}
+use lib.ListN.{length}
+use Rattle.std.specs.List.{list_all}
+use Rattle.std.proofs.lemmas.Iterator.{YieldsList-from_slice}
+use Rattle.std.proofs.lemmas.Iterator.Search.{all_from_yields_List}
+use Rattle.commands.proofs.Readiness.{met, tells_ready}
 use Rattle.commands.proofs.ready.ready.Goals as goal
 
 -- no body stands there
 pub returns-then-body-s : goal.returns-then-body-s
 returns-then-body-s c top bs b placed v at p m = absurd (omega (arith, at.fits))
 
-pub loop-k-init : goal.loop-k-init
-loop-k-init c = record { room = omega (arith, c.body_needs-r.ensures.room); within = omega arith; same = refl }
-
-pub returns-then-needs-k-eq0 : goal.returns-then-needs-k-eq0
-returns-then-needs-k-eq0 c =
-    tells_ready c.body_needs-r.ensures refl (not_met c.loop-k.invariant (omega arith) c.if-needs-k-eq0.true)
-
-pub loop-k-preserved : goal.loop-k-preserved
-loop-k-preserved c = one_met c.loop-k.invariant (omega arith) c.if-needs-k-eq0.false
-
 pub returns : goal.returns
 returns c =
-    tells_ready c.body_needs-r.ensures refl (all_met c.loop-k.invariant (omega arith))
+    tells_ready c.body_needs.ensures c.new-needs.ensures.count (ap length c.new-needs.ensures.items)
+    (all_from_yields_List (met c.args.before) _ _ _ c.all.ensures.ran (YieldsList-from_slice c.listed.result.now cc) (λ x b q k. search (rules, tests)) ∙ ap (list_all (met c.args.before)) c.listed.ensures)

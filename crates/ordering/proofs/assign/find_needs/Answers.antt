@@ -1,15 +1,17 @@
 -- `ordering::assign::find_needs` meets its contract. The invariant: what is collected after j bodies. Assumes nothing.
-use mathlib.Core.Path.{◌≡◌, refl, subst, ◌∙◌}
+use mathlib.Core.Path.{◌≡◌, refl, ap, ◌∙◌}
 use native.Mathlib.Omega.{arith}
-use Prim.Native.Nat.{ℕ, ◌≤◌, ◌<◌}
-use lib.ListN.{length, set, length-set}
+use borrow.Author.Rules.{rules}
+use Prim.Native.Nat.{◌≤◌, ◌<◌}
+use lib.ListN.{length, length-set}
 use Rattle.ordering.specs.Assign.{all_needs}
-use Rattle.ordering.specs.Needs.{Starts}
-use Rattle.ordering.proofs.Collected.{collected_none, collected_next, body_added, collected_starts, collected_all, provisions_given}
+use Rattle.ordering.proofs.Bound.{starts_of}
+use Rattle.ordering.proofs.Collected.{collected_none, collected_next, body_added, collected_starts, collected_all}
+use Rattle.ordering.proofs.EntryLaws.{room_same, room_then}
 use Rattle.ordering.proofs.assign.find_needs.Goals as goal
 
 pub loop-j-init : goal.loop-j-init
-loop-j-init c = (refl, refl, λ bs b. collected_none bs)
+loop-j-init c = (room_same, refl, λ bs b. collected_none bs c.new-listed.ensures.count)
 
 pub bounds-starts-j : goal.bounds-starts-j
 bounds-starts-j c = omega (arith, c.loop-j.invariant.1, c.requires.bodies_len_bound.1)
@@ -24,23 +26,16 @@ slice_bounds-body_needs-start c =
     let w = c.requires.collectable in
     omega (arith, (w.1.bodies_at.there c.loop-j.j (omega (arith, w.1.size))).fits)
 
-pub body_needs-r-requires : goal.body_needs-r-requires
-body_needs-r-requires c =
-    let l = c.loop-j in
-    let w = c.requires.collectable in
-    let f = l.invariant.2 w.0 w.1 in
-    (provisions_given _ _ w.0 w.1.provisions (omega (arith, w.1.size, c.requires.bodies_len_bound.0)), omega (arith, f.there.fits, f.count))
-
 pub loop-j-preserved : goal.loop-j-preserved
 loop-j-preserved c =
     let l = c.loop-j in
-    let g = c.body_needs-r in (
-      omega arith,
-      length-set l.starts l.j l.n ∙ l.invariant.1,
+    let g = c.body_needs in (
+      room_then l.invariant.0 g.ensures.room,
+      length-set l.starts l.j l.listed.count ∙ l.invariant.1,
       λ bs b.
           let f = l.invariant.2 bs b in
           let lt : l.j < length bs = omega (arith, b.size) in
-          let fits : length (all_needs bs bs) ≤ length l.needs = omega (arith, b.fits, l.invariant.0) in
+          let fits : length (all_needs bs bs) ≤ length l.listed.items.now = omega (arith, b.fits, l.invariant.0.size, ap length c.new-listed.ensures.items) in
           collected_next f lt fits (omega (arith, l.invariant.1, c.requires.bodies_len_bound.1)) (body_added f lt fits b.provisions b.bodies_at g.ensures),
     )
 
@@ -51,7 +46,7 @@ returns c =
     let room : l.j < length l.starts = omega (arith, l.invariant.1, c.requires.bodies_len_bound.1) in
     let w = c.requires.collectable in
     rw e record {
-      starts = subst (λ (k : ℕ). Starts k l.needs (set l.starts l.j l.n)) (w.1.size ∙ e)
-          (collected_starts (l.invariant.2 w.0 w.1) (omega (arith, w.1.size)) room (omega (arith, w.1.size, c.requires.bodies_len_bound.0)) (omega (arith, w.1.fits, l.invariant.0)));
-      finds_needs = λ bs b. collected_all (l.invariant.2 bs b) (omega (arith, b.size)) room;
+      starts = starts_of _ (w.1.size ∙ e)
+          (collected_starts (l.invariant.2 w.0 w.1) (omega (arith, w.1.size)) room (omega (arith, w.1.size, c.requires.bodies_len_bound.0)) (omega (arith, w.1.fits, l.invariant.0.size, ap length c.new-listed.ensures.items)) (search rules));
+      finds_needs = λ bs b. collected_all (l.invariant.2 bs b) (omega (arith, b.size)) room (search rules);
     }

@@ -1,7 +1,6 @@
 -- `ordering::needs::body_needs`, and what it is made of, meet their contracts: the names of bodies and bindings. What falls is the length
 -- of the bytes from a mark on, and in them the rank of the function. Assumes nothing.
-use mathlib.Core.Path.{◌≡◌}
-use Prim.Native.Nat.{◌+◌, ◌*◌, ◌≤◌}
+use Prim.Native.Nat.{◌+◌, ◌*◌}
 use lib.ListN.{length}
 use Rattle.ordering.specs.Listing.{member_part, member_words}
 use Rattle.ordering.proofs.Several.{ListsSoFar}
@@ -32,4 +31,4 @@ abbrev pub decreases-times : goal.decreases-times
 decreases-times l = 5 * length l.s.now + 2
 
 abbrev pub invariant-times-loop : goal.invariant-times-loop
-invariant-times-loop l = (l.r.end ≤ length l.s) × (l.r.count ≤ length l.initial.needs) × (length l.needs ≡ length l.initial.needs) × ListsSoFar (member_part l.binding) (member_words l.binding) l.a l.given l.s l.initial.r.end l.count l.initial.needs l.initial.r.count l.counter l.needs l.r
+invariant-times-loop l = ListsSoFar (member_part l.binding) (member_words l.binding) l.given l.s l.initial.at l.count l.initial.needs l.counter l.needs l.at

@@ -24,28 +24,28 @@ leaf (inr (inl e)) = rw e text
 leaf (inr (inr e)) = rw e name
 
 pub child_sexp-returns : goal.child_sexp-returns
-child_sexp-returns t c = lists_part c.requires.1 c.sexp_needs-r.ensures
+child_sexp-returns t c = lists_part c.requires c.sexp_needs.ensures
 
-pub sexp_needs-child_sexp-h-requires : goal.sexp_needs-child_sexp-h-requires
-sexp_needs-child_sexp-h-requires t c = let p = (paired c.in-Pair.is c.sexp_view-v.ensures).places in (omega (arith, p.0, p.1), search rules)
+pub sexp_needs-child_sexp-tail-requires : goal.sexp_needs-child_sexp-tail-requires
+sexp_needs-child_sexp-tail-requires t c = let p = (paired c.in-Pair.is c.sexp_view.ensures).places in (omega (arith, p.0, p.1), search rules)
 
 pub sexp_needs-child_sexp-requires : goal.sexp_needs-child_sexp-requires
-sexp_needs-child_sexp-requires t c = let p = (paired c.in-Pair.is c.sexp_view-v.ensures).places in (omega (arith, p.0), search rules)
+sexp_needs-child_sexp-requires t c = let p = (paired c.in-Pair.is c.sexp_view.ensures).places in (omega (arith, p.0), search rules)
 
 pub sexp_needs-slice_bounds-word-count : goal.sexp_needs-slice_bounds-word-count
-sexp_needs-slice_bounds-word-count t c = omega (arith, (leaf_places (leaf c.in-Integer.is) c.sexp_view-v.ensures.places).forward)
+sexp_needs-slice_bounds-word-count t c = omega (arith, (leaf_places (leaf c.in-Integer.is) c.sexp_view.ensures.places).forward)
 
 pub sexp_needs-slice_bounds-word-end : goal.sexp_needs-slice_bounds-word-end
-sexp_needs-slice_bounds-word-end t c = omega (arith, (leaf_places (leaf c.in-Integer.is) c.sexp_view-v.ensures.places).within)
+sexp_needs-slice_bounds-word-end t c = omega (arith, (leaf_places (leaf c.in-Integer.is) c.sexp_view.ensures.places).within)
 
 pub sexp_needs-returns-in-Nil : goal.sexp_needs-returns-in-Nil
-sexp_needs-returns-in-Nil t c = nil_lists (rw c.in-Nil.is at c.sexp_view-v.ensures) (omega arith)
+sexp_needs-returns-in-Nil t c = nil_lists (rw c.in-Nil.is at c.sexp_view.ensures)
 
 pub sexp_needs-returns-in-Pair : goal.sexp_needs-returns-in-Pair
-sexp_needs-returns-in-Pair t c = pair_lists (paired c.in-Pair.is c.sexp_view-v.ensures) c.child_sexp-h.ensures c.child_sexp.ensures (omega arith)
+sexp_needs-returns-in-Pair t c = pair_lists (paired c.in-Pair.is c.sexp_view.ensures) c.child_sexp-tail.ensures c.child_sexp.ensures
 
 pub sexp_needs-returns-in-Unknown : goal.sexp_needs-returns-in-Unknown
-sexp_needs-returns-in-Unknown t c = no_lists (rw c.in-Unknown.is at c.sexp_view-v.ensures) (omega arith)
+sexp_needs-returns-in-Unknown t c = no_lists (rw c.in-Unknown.is at c.sexp_view.ensures)
 
 pub sexp_needs-returns-in-Integer : goal.sexp_needs-returns-in-Integer
-sexp_needs-returns-in-Integer t c = leaf_lists (leaf c.in-Integer.is) c.sexp_view-v.ensures c.word.ensures
+sexp_needs-returns-in-Integer t c = leaf_lists (leaf c.in-Integer.is) c.sexp_view.ensures c.word.ensures

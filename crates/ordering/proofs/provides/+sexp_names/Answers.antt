@@ -27,39 +27,39 @@ leaf (inr (inl e)) = rw e text
 leaf (inr (inr e)) = rw e name
 
 pub overflow_add-result : goal.overflow_add-result
-overflow_add-result t c = omega (arith, nil_in c.args.a.now c.args.at (search rules) (nil c.in-Nil.is c.sexp_view-v.ensures))
+overflow_add-result t c = omega (arith, nil_in c.args.a.now c.args.at (search rules) (nil c.in-Nil.is c.sexp_view.ensures))
 
 pub overflow_add-at : goal.overflow_add-at
-overflow_add-at t c = omega (arith, (head_in c.args.a.now c.args.at (search rules) (paired c.in-Pair.is c.sexp_view-v.ensures)).1)
+overflow_add-at t c = omega (arith, (head_in c.args.a.now c.args.at (search rules) (paired c.in-Pair.is c.sexp_view.ensures)).1)
 
-pub sexp_names-h-requires : goal.sexp_names-h-requires
-sexp_names-h-requires t c =
-    let h = head_in c.args.a.now c.args.at (search rules) (paired c.in-Pair.is c.sexp_view-v.ensures) in
-    (omega arith, (omega arith, omega arith, omega arith, omega arith))
+pub sexp_names-tail-requires : goal.sexp_names-tail-requires
+sexp_names-tail-requires t c =
+    let h = head_in c.args.a.now c.args.at (search rules) (paired c.in-Pair.is c.sexp_view.ensures) in
+    (omega arith, (omega arith, omega arith, omega arith))
 
 pub sexp_names-requires : goal.sexp_names-requires
 sexp_names-requires t c =
-    let p = head_in c.args.a.now c.args.at (search rules) (paired c.in-Pair.is c.sexp_view-v.ensures) in
-    let h = c.sexp_names-h.ensures in
-    (omega arith, (omega arith, omega arith, omega arith, omega (arith, h.adds.frame.size)))
+    let p = head_in c.args.a.now c.args.at (search rules) (paired c.in-Pair.is c.sexp_view.ensures) in
+    let h = c.sexp_names-tail.ensures in
+    (omega arith, (omega arith, omega arith, omega arith))
 
 pub overflow_add-start : goal.overflow_add-start
-overflow_add-start t c = let i = leaf_in c.args.a.now c.args.at (search rules) c.sexp_view-v.ensures (leaf c.in-Integer.is) in omega arith
+overflow_add-start t c = let i = leaf_in c.args.a.now c.args.at (search rules) c.sexp_view.ensures (leaf c.in-Integer.is) in omega arith
 
 pub overflow_add-end : goal.overflow_add-end
-overflow_add-end t c = let i = leaf_in c.args.a.now c.args.at (search rules) c.sexp_view-v.ensures (leaf c.in-Integer.is) in omega arith
+overflow_add-end t c = let i = leaf_in c.args.a.now c.args.at (search rules) c.sexp_view.ensures (leaf c.in-Integer.is) in omega arith
 
 pub entry-requires : goal.entry-requires
-entry-requires t c = let i = leaf_in c.args.a.now c.args.at (search rules) c.sexp_view-v.ensures (leaf c.in-Integer.is) in (omega arith, omega arith)
+entry-requires t c = let i = leaf_in c.args.a.now c.args.at (search rules) c.sexp_view.ensures (leaf c.in-Integer.is) in (omega arith, omega arith)
 
 pub returns-in-Nil : goal.returns-in-Nil
-returns-in-Nil t c = nil_names _ _ (search rules) (nil c.in-Nil.is c.sexp_view-v.ensures) (search rules) (search rules)
+returns-in-Nil t c = nil_names _ _ (search rules) (nil c.in-Nil.is c.sexp_view.ensures)
 
 pub returns-in-Pair : goal.returns-in-Pair
-returns-in-Pair t c = pair_names _ _ (search rules) (paired c.in-Pair.is c.sexp_view-v.ensures) c.sexp_names-h.ensures c.sexp_names.ensures
+returns-in-Pair t c = pair_names _ _ (search rules) (paired c.in-Pair.is c.sexp_view.ensures) c.sexp_names-tail.ensures c.sexp_names.ensures
 
 pub returns-in-Unknown : goal.returns-in-Unknown
-returns-in-Unknown t c = no_names _ _ (search rules) (rw c.in-Unknown.is at c.sexp_view-v.ensures) (search rules) (search rules)
+returns-in-Unknown t c = no_names _ _ (search rules) (rw c.in-Unknown.is at c.sexp_view.ensures)
 
 pub returns-in-Integer : goal.returns-in-Integer
-returns-in-Integer t c = leaf_names _ _ (search rules) c.sexp_view-v.ensures (leaf c.in-Integer.is) (search rules) (search rules) (search rules) c.entry.ensures
+returns-in-Integer t c = leaf_names _ _ (search rules) c.sexp_view.ensures (leaf c.in-Integer.is) (search rules) (search rules) c.entry.ensures

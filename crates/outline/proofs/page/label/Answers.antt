@@ -1,22 +1,23 @@
 -- `outline::page::label` meets its contract. Assumes nothing.
 use mathlib.Core.Path.{sym, ◌∙◌}
-use native.Mathlib.Omega.{arith}
-use Rattle.outline.proofs.NamePlaces.{label_nowhere, label_at, label_complex, label_pattern}
+use Rattle.outline.proofs.NamePlaces.{label_unmarked, label_nowhere, label_at, label_complex, label_pattern}
 use Rattle.outline.proofs.page.label.Goals as goal
 
-pub returns-then-byte_at-ne0 : goal.returns-then-byte_at-ne0
-returns-then-byte_at-ne0 c =
-    label_complex _ c.first_mark.ensures c.in-Pattern.ensures.value (rw c.byte_at.ensures at c.if-byte_at-ne0.true)
+pub returns-in_err-first_mark : goal.returns-in_err-first_mark
+returns-in_err-first_mark c = rw c.from_residual.ensures (label_unmarked c.in_err-first_mark.ensures)
 
-pub overflow_add-at : goal.overflow_add-at
-overflow_add-at c = omega (arith, c.in-Pattern.ensures.place_low)
-
-pub returns-in-Nowhere : goal.returns-in-Nowhere
-returns-in-Nowhere c = label_nowhere _ c.first_mark.ensures c.in-Nowhere.ensures.value
+pub returns-in_err-at : goal.returns-in_err-at
+returns-in_err-at c =
+    rw c.from_residual-in_err-at.ensures (label_nowhere _ c.in_ok-first_mark.ensures c.in_err-at.ensures.value)
 
 pub returns-in-At : goal.returns-in-At
-returns-in-At c = label_at _ c.first_mark.ensures c.in-At.ensures.value c.named.ensures
+returns-in-At c =
+    label_at _ c.in_ok-first_mark.ensures (rw c.in-At.is at c.in_ok-at.ensures.value) c.named.ensures
 
-pub returns-else-byte_at-ne0 : goal.returns-else-byte_at-ne0
-returns-else-byte_at-ne0 c =
-    label_pattern _ c.first_mark.ensures c.in-Pattern.ensures.value (sym c.byte_at.ensures ∙ c.if-byte_at-ne0.false) c.named-in-Pattern.ensures
+pub returns-in-Pattern : goal.returns-in-Pattern
+returns-in-Pattern c =
+    label_pattern _ c.in_ok-first_mark.ensures (rw c.in-Pattern.is at c.in_ok-at.ensures.value) (sym c.byte_at.ensures ∙ c.if-byte_at-eq0.true) c.named-in-Pattern.ensures
+
+pub returns-in-Pattern-2 : goal.returns-in-Pattern-2
+returns-in-Pattern-2 c =
+    label_complex _ c.in_ok-first_mark.ensures (rw c.in-Pattern.is at c.in_ok-at.ensures.value) (rw c.byte_at.ensures at c.if-byte_at-eq0.false)

@@ -5,8 +5,9 @@ use Rattle.records.proofs.bodies.let_view.Goals as goal
 pub returns : goal.returns
 returns c =
     sees_let
+    c.from-kind.ensures
     c.past_bytes-at.ensures.past
-    c.byte_at-kind.ensures
+    c.byte_at.ensures
     c.past_bytes-loc.ensures.past
     c.past_bytes-keyword.ensures.past
     c.past_keyword-hint.ensures

@@ -1,27 +1,38 @@
--- `replay_sexps::sexps::holds` meets its contract. Assumes nothing.
+-- `replay_sexps::sexps::holds` meets its contract: a test that fails, and all tests but the last that hold. Assumes nothing.
+use mathlib.Core.Path.{sym, ◌∙◌}
 use native.Mathlib.Omega.{arith}
-use Prim.Native.Nat.{◌-◌}
-use lib.ListN.{length}
-use Rattle.replays.proofs.Deciding.{decides_as, decides_no, fails_not}
-use Rattle.replay_sexps.proofs.Comparing.{decides_at, decides_between}
+use Rattle.std.proofs.lemmas.Bool.{both_ways, leb-true}
+use Rattle.replays.proofs.Deciding.{decides_no, fails_not}
+use Rattle.replay_sexps.proofs.Comparing.{decides_at, decides_held}
 use Rattle.replay_sexps.proofs.sexps.holds.Goals as goal
+use Rattle.replay_sexps.proofs.sexps.holds.Goals.{then-from-top, else-from-top, then-is_word, else-is_word}
 
-pub returns-then-not-is_word : goal.returns-then-not-is_word
-returns-then-not-is_word c =
-    decides_no (λ h. fails_not c.if-not-is_word.true (decides_at c.args.mem.now 0 c.args.input.now (omega arith) c.is_word.ensures) h.front)
-
-pub returns-then-not-is_word-2 : goal.returns-then-not-is_word-2
-returns-then-not-is_word-2 c =
+pub returns-else-is_word-2 : goal.returns-else-is_word-2
+returns-else-is_word-2 c =
     let s = c.args in
-    decides_no (λ h. fails_not c.if-not-is_word-2.true (decides_at s.mem.now (length s.mem.now - length s.map.now) s.map.now (omega arith) c.is_word-2.ensures) h.end)
+    let top = c.in-Some.ensures in
+    rw c.if-is_word-2.false (
+    elim c.if-is_word.branch [
+      | then-is_word w ↦ decides_no (λ h. fails_not (sym w.value-is ∙ c.if-is_word-2.false) (decides_at s.mem.now c.in-Some.top s.map.now (omega arith) w.is_word-then-is_word.ensures) (rw top.1 h.end))
+      | else-is_word w ↦ elim c.if-from-top.branch [
+        | then-from-top v ↦ decides_no (λ h. fails_not (sym v.value-is ∙ w.if-is_word.false) (decides_at s.mem.now 0 s.input.now (omega arith) v.is_word.ensures) h.front)
+        | else-from-top v ↦ decides_no (λ h. omega (arith, top, h.fits))
+      ]
+    ]
+    )
 
-pub returns : goal.returns
-returns c =
+pub returns-then-is_word-2 : goal.returns-then-is_word-2
+returns-then-is_word-2 c =
     let s = c.args in
-    let top = length s.mem.now - length s.map.now in
-    let front = (decides_at s.mem.now 0 s.input.now (omega arith) c.is_word.ensures).only c.if-not-is_word.false in
-    let end = (decides_at s.mem.now top s.map.now (omega arith) c.is_word-2.ensures).only c.if-not-is_word-2.false in
-    decides_as
-    (λ h. record { fits = omega (arith, c.if-from-top.false, c.if-map-mem.false); front = front; between = h; end = end })
-    (λ h. h.between)
-    (decides_between s.mem.now s.from top (omega (arith, c.if-from-top.false)) (omega arith) c.untouched.ensures)
+    let top = c.in-Some.ensures in
+    elim c.if-is_word.branch [
+      | then-is_word w ↦ elim c.if-from-top.branch [
+        | then-from-top v ↦
+            decides_held s.mem.now s.input.now s.map.now s.from c.in-Some.top top.0 top.1 (omega arith)
+            ((decides_at s.mem.now 0 s.input.now (omega arith) v.is_word.ensures).only (sym v.value-is ∙ w.if-is_word.true))
+            ((decides_at s.mem.now c.in-Some.top s.map.now (omega arith) w.is_word-then-is_word.ensures).only (sym w.value-is ∙ c.if-is_word-2.true))
+            c.untouched.ensures
+        | else-from-top v ↦ absurd (omega (arith, leb-true _ _ (sym v.value-is ∙ w.if-is_word.true)))
+      ]
+      | else-is_word w ↦ absurd (both_ways _ w.if-is_word.false (sym w.value-is ∙ c.if-is_word-2.true))
+    ]

@@ -1,14 +1,14 @@
 -- Own and In-body meet their contracts. What falls is 16 times the levels that are left, and the phase. Assumes nothing.
 use native.Mathlib.Omega.{arith}
-use mathlib.Core.Path.{ap}
-use Rattle.records.specs.Records.{Parallel, Sequential, Assign}
+use mathlib.Core.Path.{ap, sym, ◌∙◌}
+use Rattle.records.specs.declared.Kind.TheVariants.{Parallel, Sequential, Assign}
 use Rattle.std.specs.declared.result.Result.TheVariants.{Err}
 use borrow.Author.Rules.{rules}
 use Rattle.records.specs.declared.BodyMark.TheVariants.{Let, Quoted, Call, Mod, Lambda}
 use Rattle.records.proofs.Marks.{body_placed, body_other}
 use Rattle.walk.proofs.Dispatch.{binder_marked, quoted_marked, call_marked, mod_marked, lambda_marked, kept_marked, value_marked, walks_as, asks_kept, asks_kind, own_keeps, in_keeps, in_renames}
 use Rattle.walk.proofs.Results.{ready_as}
-use Rattle.walk.proofs.LetKinds.{kind_there, ready_kind, ready_parallel, walks_kind, is_parallel, is_sequential, is_assign}
+use Rattle.walk.proofs.LetKinds.{kind_there, ready_kind, ready_parallel, walks_kind}
 use Rattle.walk.proofs.BothLaws as both_laws
 use Rattle.walk.proofs.CallLaws as call_laws
 use Rattle.walk.proofs.Turns as each_laws
@@ -86,45 +86,48 @@ pub assign_all-loop-index-init : goal.assign_all-loop-index-init
 assign_all-loop-index-init t c = assign_all_laws.loop_starts
 
 pub assign_all-overflow_sub-n : goal.assign_all-overflow_sub-n
-assign_all-overflow_sub-n t c = let p = c.requires in omega (arith, assign_all_laws.end_is p (c.loop-index.invariant p) (omega arith))
+assign_all-overflow_sub-n t c = rw c.from-i.ensures (
+    let p = c.requires in omega (arith, assign_all_laws.end_is p (c.loop-index.invariant p) (omega arith)))
 
 pub assign_all-slice_bounds-assign_one-count : goal.assign_all-slice_bounds-assign_one-count
-assign_all-slice_bounds-assign_one-count t c =
+assign_all-slice_bounds-assign_one-count t c = rw c.from-i.ensures (
     let p = c.requires in
     let l = c.loop-index.invariant p in
-    omega (arith, assign_all_laws.next_below p l (omega arith), assign_all_laws.next_room p l (omega arith))
+    omega (arith, assign_all_laws.next_below p l (omega arith), assign_all_laws.next_room p l (omega arith)))
 
 pub assign_all-slice_bounds-assign_one-start : goal.assign_all-slice_bounds-assign_one-start
-assign_all-slice_bounds-assign_one-start t c =
+assign_all-slice_bounds-assign_one-start t c = rw c.from-i.ensures (
     let p = c.requires in
     let l = c.loop-index.invariant p in
-    omega (arith, assign_all_laws.next_below p l (omega arith), assign_all_laws.next_room p l (omega arith))
+    omega (arith, assign_all_laws.next_below p l (omega arith), assign_all_laws.next_room p l (omega arith)))
 
 pub assign_all-overflow_sub-next : goal.assign_all-overflow_sub-next
-assign_all-overflow_sub-next t c = let p = c.requires in omega (arith, assign_all_laws.next_below p (c.loop-index.invariant p) (omega arith))
+assign_all-overflow_sub-next t c = rw c.from-i.ensures (
+    let p = c.requires in omega (arith, assign_all_laws.next_below p (c.loop-index.invariant p) (omega arith)))
 
 pub assign_all-assign_one-requires : goal.assign_all-assign_one-requires
-assign_all-assign_one-requires t c = let p = c.requires in (omega (arith, c.decreases), assign_all_laws.next_ready p (c.loop-index.invariant p) (omega arith))
+assign_all-assign_one-requires t c = rw c.from-i.ensures (
+    let p = c.requires in (omega (arith, c.decreases), assign_all_laws.next_ready p (c.loop-index.invariant p) (omega arith)))
 
 pub assign_all-returns-in_err-one : goal.assign_all-returns-in_err-one
-assign_all-returns-in_err-one t c =
+assign_all-returns-in_err-one t c = rw c.from-i.ensures (
     let p = c.requires in
     let e = err_from_is_err_and c.from_residual.result c.from_residual.ensures.1 in
-    rw (e.1, e.2) (assign_all_laws.turn_refused p (c.loop-index.invariant p) (omega arith) c.assign_one.ensures _ c.in_err-one.was)
+    rw (e.1, e.2) (assign_all_laws.turn_refused p (c.loop-index.invariant p) (omega arith) (rw c.from-i.ensures at c.assign_one.ensures) _ c.in_err-one.was))
 
 pub assign_all-overflow_sub-top : goal.assign_all-overflow_sub-top
-assign_all-overflow_sub-top t c = let p = c.requires in omega (arith, assign_all_laws.top_room p (c.loop-index.invariant p) (omega arith) c.assign_one.ensures c.in_ok-one.was)
+assign_all-overflow_sub-top t c = let p = c.requires in omega (arith, assign_all_laws.top_room p (c.loop-index.invariant p) (omega arith) (rw c.from-i.ensures at c.assign_one.ensures) c.in_ok-one.was)
 
 pub assign_all-copy-requires : goal.assign_all-copy-requires
-assign_all-copy-requires t c =
+assign_all-copy-requires t c = rw c.from-i.ensures (
     let p = c.requires in
     let l = c.loop-index.invariant p in
-    let n = assign_all_laws.move_fits p l (omega arith) c.assign_one.ensures c.in_ok-one.was in
+    let n = assign_all_laws.move_fits p l (omega arith) (rw c.from-i.ensures at c.assign_one.ensures) c.in_ok-one.was in
     let o = assign_all_laws.top_low p l in
-    record { source = omega (arith, n); target = omega (arith, n, o); safe = inr (omega (arith, o)) }
+    record { source = omega (arith, n); target = omega (arith, n, o); safe = inr (omega (arith, o)) })
 
 pub assign_all-loop-index-preserved : goal.assign_all-loop-index-preserved
-assign_all-loop-index-preserved t c = λ p. assign_all_laws.turn_done p (c.loop-index.invariant p) (omega arith) c.assign_one.ensures c.in_ok-one.was c.copy.ensures
+assign_all-loop-index-preserved t c = λ p. assign_all_laws.turn_done p (c.loop-index.invariant p) (omega arith) (rw c.from-i.ensures at c.assign_one.ensures) c.in_ok-one.was (rw c.from-i.ensures at c.copy.ensures)
 
 pub assign_all-overflow_sub-result : goal.assign_all-overflow_sub-result
 assign_all-overflow_sub-result t c = let p = c.requires in omega (arith, assign_all_laws.top_low p (c.loop-index.invariant p))
@@ -716,22 +719,22 @@ pub lets-bounds-mem-2 : goal.lets-bounds-mem-2
 lets-bounds-mem-2 t c = kind_there c.requires
 
 pub lets-parallel-requires : goal.lets-parallel-requires
-lets-parallel-requires t c = (omega (arith, c.decreases), ready_parallel c.requires (is_parallel c.in-0.is))
+lets-parallel-requires t c = (omega (arith, c.decreases), ready_parallel c.requires (sym c.from.ensures ∙ c.in-Parallel.is))
 
 pub lets-chain-requires : goal.lets-chain-requires
-lets-chain-requires t c = (omega (arith, c.decreases), ready_kind c.requires Sequential (is_sequential c.in-1.is))
+lets-chain-requires t c = (omega (arith, c.decreases), ready_kind c.requires Sequential (sym c.from.ensures ∙ c.in-Sequential.is))
 
 pub lets-assign-requires : goal.lets-assign-requires
-lets-assign-requires t c = (omega (arith, c.decreases), ready_kind c.requires Assign (is_assign _ (omega arith) (omega arith)))
+lets-assign-requires t c = (omega (arith, c.decreases), ready_kind c.requires Assign (sym c.from.ensures ∙ c.in-Assign.is))
 
-pub lets-returns-in-0 : goal.lets-returns-in-0
-lets-returns-in-0 t c = walks_kind Parallel (is_parallel c.in-0.is) c.parallel.ensures
+pub lets-returns-in-Parallel : goal.lets-returns-in-Parallel
+lets-returns-in-Parallel t c = walks_kind Parallel (sym c.from.ensures ∙ c.in-Parallel.is) c.parallel.ensures
 
-pub lets-returns-in-1 : goal.lets-returns-in-1
-lets-returns-in-1 t c = walks_kind Sequential (is_sequential c.in-1.is) c.chain.ensures
+pub lets-returns-in-Sequential : goal.lets-returns-in-Sequential
+lets-returns-in-Sequential t c = walks_kind Sequential (sym c.from.ensures ∙ c.in-Sequential.is) c.chain.ensures
 
-pub lets-returns-in_default : goal.lets-returns-in_default
-lets-returns-in_default t c = walks_kind Assign (is_assign _ (omega arith) (omega arith)) c.assign.ensures
+pub lets-returns-in-Assign : goal.lets-returns-in-Assign
+lets-returns-in-Assign t c = walks_kind Assign (sym c.from.ensures ∙ c.in-Assign.is) c.assign.ensures
 
 pub moved-copy-requires : goal.moved-copy-requires
 moved-copy-requires t c = let p = c.requires in movable_up (omega (arith, moved_laws.low p)) (omega (arith, moved_laws.wide p, p.wrote))

@@ -12,4 +12,4 @@ pub returns-clause-invents_atom : goal.returns-clause-invents_atom
 unfolding ascii
 returns-clause-invents_atom c =
     let a = c.args in
-    invents_drawn a.mem.now _ a.start a.end a.len a.counter c.push.result (sym c.same.ensures ∙ c.if-same.false) c.push.ensures.pushes
+    invents_drawn a.mem.now _ a.name.start a.name.end a.len a.counter c.push.result (sym c.same.ensures ∙ c.if-same.false) c.push.ensures.pushes

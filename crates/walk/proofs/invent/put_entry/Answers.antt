@@ -27,4 +27,4 @@ pub put_name-requires : goal.put_name-requires
 put_name-requires c = (c.requires.new_short, omega (arith, fit c.requires, name_field_length c.args.new.now))
 
 pub returns : goal.returns
-returns c = entry_written c.args.start c.args.end c.args.new.now c.requires c.put_number.ensures c.copy.ensures c.put_name.ensures
+returns c = entry_written c.args.old.start c.args.old.end c.args.new.now c.requires c.put_number.ensures c.copy.ensures c.put_name.ensures

@@ -1,0 +1,6 @@
+-- `records::Scan::raw` meets its contract. Assumes nothing.
+use Rattle.records.proofs.FieldLaws.{reads_raw}
+use Rattle.records.proofs.Scan.raw.Goals as goal
+
+pub returns : goal.returns
+returns c = reads_raw c.counted.ensures
