@@ -5,12 +5,12 @@ use Rattle.std.specs.Prelude.{Option, None, Some, Err}
 use Prim.Native.Nat.{ℕ, zero, suc}
 use Rattle.names.specs.CallAnswer.{CallResult}
 use Rattle.names.specs.Names.{Bytes}
-use Rattle.names.specs.Refusals.{placeless, reason_number, refusal_number, refusal_place}
+use Rattle.names.specs.Refusals.{placeless, reason_number, reason_of, refusal_number, refusal_place}
 use Rattle.names.specs.declared.Answer.{Answer}
 use Rattle.names.specs.declared.Reason.{Reason}
 use Rattle.names.specs.declared.Reason.TheVariants.{OutOfRange, NotOneRecord, PastLimit, ModInBinding, Deadlock, LongName, LongRecord, ShortBuffer, ShortPage}
 use Rattle.names.specs.declared.Refusal.{Refusal}
-use Rattle.exports.specs.Linked.{Told, Answers, answer_in, refusal_by, refusal_in, reason_of, read_call}
+use Rattle.exports.specs.Linked.{Told, Answers, answer_in, refusal_by, refusal_in, read_call}
 
 -- a reason has a number, and no other reason has it
 of_number : (r : Reason) → reason_of (reason_number r) ≡ Some r

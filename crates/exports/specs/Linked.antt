@@ -4,9 +4,9 @@ use Rattle.std.specs.Prelude.{Result as Res, Ok, Err, Option, None, Some}
 use Rattle.std.specs.Prelude.{List, [], ◌∷◌, ◌≡◌, ℕ, zero, suc, ◌*◌, length, get_or}
 use Rattle.names.specs.CallAnswer.{CallResult}
 use Rattle.names.specs.Names.{Bytes}
-use Rattle.names.specs.Refusals.{place_at, refusing, placeless, refusal_number, refusal_place}
+use Rattle.names.specs.Refusals.{place_at, refusing, placeless, reason_of, refusal_number, refusal_place}
 use Rattle.names.specs.declared.Reason.{Reason}
-use Rattle.names.specs.declared.Reason.TheVariants.{OutOfRange, NotOneRecord, PastLimit, ModInBinding, Deadlock, LongName, LongRecord, ShortBuffer, ShortPage}
+use Rattle.names.specs.declared.Reason.TheVariants.{OutOfRange}
 use Rattle.names.specs.declared.Answer.{Answer}
 use Rattle.names.specs.declared.Refusal.{Refusal}
 use Rattle.records.specs.Limits.{most_longest, work_factor}
@@ -28,20 +28,6 @@ pub record Answers (r : CallResult) (n : ℕ) (told : List ℕ) (after : Bytes) 
 -- it hands a call on, with what it is given
 abbrev pub Hands : (ℕ → ℕ → ℕ → Bytes → Bytes → CallResult) → ℕ → Bytes → ℕ → Bytes → Bytes → ℕ → List ℕ → Bytes → Type 0
 Hands call f work counter input before n told after = Answers (call f (length work) counter input before) n told after
-
--- the reason of a number, if one has it
-abbrev pub reason_of : ℕ → Option Reason
-reason_of zero = None
-reason_of (suc zero) = Some OutOfRange
-reason_of (suc (suc zero)) = Some NotOneRecord
-reason_of (suc (suc (suc zero))) = Some PastLimit
-reason_of (suc (suc (suc (suc zero)))) = Some ModInBinding
-reason_of (suc (suc (suc (suc (suc zero))))) = Some Deadlock
-reason_of (suc (suc (suc (suc (suc (suc zero)))))) = Some LongName
-reason_of (suc (suc (suc (suc (suc (suc (suc zero))))))) = Some LongRecord
-reason_of (suc (suc (suc (suc (suc (suc (suc (suc zero)))))))) = Some ShortBuffer
-reason_of (suc (suc (suc (suc (suc (suc (suc (suc (suc zero))))))))) = Some ShortPage
-reason_of (suc (suc (suc (suc (suc (suc (suc (suc (suc (suc n)))))))))) = None
 
 -- the refusal and the answer that are told
 abbrev pub refusal_by : Option Reason → ℕ → Option Refusal

@@ -67,7 +67,7 @@ pub record Entry (s : Bytes) (at o n : ℕ) (m : NameMap) (x : Bytes) : Type 0 w
   pub hit : same x (take o (drop (at + name_width) s)) ≡ true → Hit s (at + name_width + o + name_width) n m x
   pub miss : same x (take o (drop (at + name_width) s)) ≡ false → Searched s (at + name_width + o + name_width + n) m x
 
-entry : {s : Bytes} {at o n : ℕ} {m : NameMap} {x : Bytes} → Searched s at m x → at < length s → o ≡ number_of (take name_width (drop at s))
+pub entry : {s : Bytes} {at o n : ℕ} {m : NameMap} {x : Bytes} → Searched s at m x → at < length s → o ≡ number_of (take name_width (drop at s))
     → n ≡ number_of (take name_width (drop (at + name_width + o) s)) → Entry s at o n m x
 unfolding map_bytes
 entry {s} {at} {o} {n} {m} {x} h lt eo en = go h.rest h.is h.finds h.place

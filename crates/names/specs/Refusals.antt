@@ -1,6 +1,6 @@
 -- Refusals: a reason and a place, from the reader to the calls, and the number of each. docs/FORMAT.md, 'Calls'.
 -- Assumes nothing.
-use Rattle.std.specs.Prelude.{ℕ, Option, None, Some}
+use Rattle.std.specs.Prelude.{ℕ, zero, suc, Option, None, Some}
 pub use Rattle.names.specs.declared.Place.{Place}
 pub use Rattle.names.specs.declared.Reason.{Reason}
 pub use Rattle.names.specs.declared.Reason.TheVariants.{OutOfRange, NotOneRecord, PastLimit, ModInBinding, Deadlock, LongName, LongRecord, ShortBuffer, ShortPage}
@@ -33,6 +33,20 @@ reason_number LongName = 6
 reason_number LongRecord = 7
 reason_number ShortBuffer = 8
 reason_number ShortPage = 9
+
+-- the reason of a number, if one has it
+abbrev pub reason_of : ℕ → Option Reason
+reason_of zero = None
+reason_of (suc zero) = Some OutOfRange
+reason_of (suc (suc zero)) = Some NotOneRecord
+reason_of (suc (suc (suc zero))) = Some PastLimit
+reason_of (suc (suc (suc (suc zero)))) = Some ModInBinding
+reason_of (suc (suc (suc (suc (suc zero))))) = Some Deadlock
+reason_of (suc (suc (suc (suc (suc (suc zero)))))) = Some LongName
+reason_of (suc (suc (suc (suc (suc (suc (suc zero))))))) = Some LongRecord
+reason_of (suc (suc (suc (suc (suc (suc (suc (suc zero)))))))) = Some ShortBuffer
+reason_of (suc (suc (suc (suc (suc (suc (suc (suc (suc zero))))))))) = Some ShortPage
+reason_of (suc (suc (suc (suc (suc (suc (suc (suc (suc (suc n)))))))))) = None
 
 -- the number and the place that are told of a refusal; 0 and 0 where nothing is refused
 abbrev pub refusal_number : Option Refusal → ℕ

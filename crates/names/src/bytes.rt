@@ -54,12 +54,15 @@ pub fn is_word(s: &[u8], at: usize, word: &[u8]) -> bool
     same(&s[at..at + n], word)
 }
 
-// Writes src into out at a place.
+// Writes src into out at a place. No `copy_from_slice`: with it the library for C asks for `memmove` too,
+// and a short name takes longer.
 pub fn put(out: &mut [u8], at: usize, src: &[u8])
     requires { at + length src.now ≤ length out.old }
     ensures { Filled out.old out.new at src.now (length src.now) }
 {
-    out[at..at + src.len()].copy_from_slice(src);
+    for i in 0..src.len() {
+        out[at + i] = src[i];
+    }
 }
 
 // The number that `width` bytes at a place stand for.

@@ -1,6 +1,6 @@
 // Places and refusals, each made in one function, and the numbers by which they are told.
-ghost use Rattle.std.specs.Prelude.{◌≡◌};
-ghost use Rattle.names.specs.Refusals.{place_at, refusing, placeless, reason_number, refusal_number, refusal_place};
+ghost use Rattle.std.specs.Prelude.{◌≡◌, IfSome};
+ghost use Rattle.names.specs.Refusals.{place_at, refusing, placeless, reason_number, reason_of, refusal_number, refusal_place};
 
 use crate::{Place, Reason, Refusal};
 
@@ -41,6 +41,25 @@ impl From<Reason> for u32 {
             Reason::ShortBuffer => 8,
             Reason::ShortPage => 9,
         }
+    }
+}
+
+// The reason of a number, if one has it.
+pub fn reason_of(number: u32) -> Option<Reason>
+    ensures value { result ≡ reason_of number }
+    ensures numbered { IfSome result (λ r. reason_number r ≡ number) }
+{
+    match number {
+        1 => Some(Reason::OutOfRange),
+        2 => Some(Reason::NotOneRecord),
+        3 => Some(Reason::PastLimit),
+        4 => Some(Reason::ModInBinding),
+        5 => Some(Reason::Deadlock),
+        6 => Some(Reason::LongName),
+        7 => Some(Reason::LongRecord),
+        8 => Some(Reason::ShortBuffer),
+        9 => Some(Reason::ShortPage),
+        _ => None,
     }
 }
 

@@ -49,7 +49,7 @@ added_adds {size} {before} {after} es room f fit each = record {
       rw (← e, at_get here (k - n) (omega (arith, f.counted))) (each (k - n) (omega (arith, f.counted)));
 }
 
-adds_none : {size : ℕ} {l : Listed ℕ} → Adds size l l
+pub adds_none : {size : ℕ} {l : Listed ℕ} → Adds size l l
 adds_none {l = l} = added_adds [] room_same added_none (omega (arith, l.within)) (λ k h. absurd (omega arith))
 
 -- more is listed

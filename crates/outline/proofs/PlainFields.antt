@@ -54,7 +54,7 @@ pub number_past : {s : Bytes} {at : ℕ} {v : NameView} → SeesInteger s at v �
 number_past x = record { within = x.within; onward = omega (arith, x.onward, x.forward); past = λ n q a. (x.sees n q a).past }
 
 -- a field ends where its tree does
-plain_indexes : {s mem : Bytes} {a : Around} {c : Counted} {at : ℕ} {p : Part} {f : Field} → FieldTree p f → Begun s mem a c → Past p s c.end at
+pub plain_indexes : {s mem : Bytes} {a : Around} {c : Counted} {at : ℕ} {p : Part} {f : Field} → FieldTree p f → Begun s mem a c → Past p s c.end at
     → IndexesOn (FieldIs f) s mem mem a c (counted_to c.count at)
 unfolding pieces_bytes
 plain_indexes {s} {mem} {a} {c} {at} {p} h b x =

@@ -42,7 +42,7 @@ pub record Onward (Q R : Pieces → Type 0) (l m : Listing) : Type 0 where
   pub lists : (p : Pieces) → Q p → At l.bytes.now l.end (pieces_bytes p) → Reached R l.bytes.now m.mem.now l.around (so_far l) (so_far m) p
 
 -- nothing is behind
-reached_none : {P : Pieces → Type 0} {s mem : Bytes} {a : Around} {c : Counted} → Begun s mem a c → (p : Pieces) → P p → At s c.end (pieces_bytes p) → Reached P s mem a c c p
+pub reached_none : {P : Pieces → Type 0} {s mem : Bytes} {a : Around} {c : Counted} → Begun s mem a c → (p : Pieces) → P p → At s c.end (pieces_bytes p) → Reached P s mem a c c p
 unfolding ◌++ᵖ◌
 reached_none b p v h = record { done = no_more; rest = p; whole = refl; left = v; there = h; lists = entered_none b }
 
@@ -63,14 +63,14 @@ module _ {P Q R : Pieces → Type 0} {s mem mem' : Bytes} {a : Around} {c d r : 
 
 module _ {s mem mem' : Bytes} {a : Around} {c d r : Counted} {p : Pieces} where
   -- one more field is behind
-  reached_field : {f : Field} {fs gs : List Field} → fs ≡ f ∷ gs → Reached (FieldsAre fs) s mem a c d p → IndexesOn (FieldIs f) s mem mem' a d r → Reached (FieldsAre gs) s mem' a c r p
+  pub reached_field : {f : Field} {fs gs : List Field} → fs ≡ f ∷ gs → Reached (FieldsAre fs) s mem a c d p → IndexesOn (FieldIs f) s mem mem' a d r → Reached (FieldsAre gs) s mem' a c r p
   reached_field {f} {fs} {gs} e h x = go (rw e at h.left) refl
     where
       go : {ps : Pieces} → FieldsAre (f ∷ gs) ps → ps ≡ h.rest → Reached (FieldsAre gs) s mem' a c r p
       go (more_fields {p = y} {ps = ys} v vs) q = reached_more h y ys q v vs x
 
   -- one more record is behind
-  reached_record : {i n : ℕ} → Reached (Many i n) s mem a c d p → i < n → IndexesOn (FieldIs fields.Record) s mem mem' a d r → Reached (Many (i + 1) n) s mem' a c r p
+  pub reached_record : {i n : ℕ} → Reached (Many i n) s mem a c d p → i < n → IndexesOn (FieldIs fields.Record) s mem mem' a d r → Reached (Many (i + 1) n) s mem' a c r p
   unfolding records_then ◌++ᵖ◌
   reached_record {i} {n} h l x = go h.left.all h.left.number h.left.good h.left.same
     where
@@ -84,7 +84,7 @@ module _ {s mem : Bytes} {a : Around} {c d : Counted} {p : Pieces} where
   reached_last h e = subst (Entered mem a c d) (sym (join_none h.done) ∙ ap (λ (q : Pieces). h.done ++ᵖ q) (sym e) ∙ h.whole) h.lists
 
   -- no field is left
-  reached_fields : Reached (FieldsAre []) s mem a c d p → Entered mem a c d p
+  pub reached_fields : Reached (FieldsAre []) s mem a c d p → Entered mem a c d p
   reached_fields h = reached_last h (go h.left)
     where
       go : {q : Pieces} → FieldsAre [] q → q ≡ no_more

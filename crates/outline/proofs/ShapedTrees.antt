@@ -13,7 +13,7 @@ use Rattle.records.specs.declared.Kind.TheVariants.{Parallel, Sequential, Assign
 use Rattle.records.specs.Valid.{ValidLoc, ValidName, SexpFields, ValidPattern, BodyFields, BodiesFields, TailFields, BindingFields, BindingsFields, HelperFields, HelpersFields, FormFields}
 use Rattle.outline.specs.declared.Field.{Field}
 use Rattle.outline.specs.declared.Field.TheVariants as fields
-use Rattle.outline.specs.Outline.{Outline, Pieces, no_more, bytes_then, record_then, ◌++ᵖ◌, sexp_outline, pattern_pieces, body_outline, bodies_pieces, tail_pieces, binding_outline, bindings_pieces, helper_outline, helpers_pieces, form_outline, family_outline}
+use Rattle.outline.specs.Outline.{Outline, Pieces, no_more, bytes_then, record_then, ◌++ᵖ◌, sexp_outline, pattern_pieces, body_outline, bodies_pieces, tail_pieces, binding_outline, bindings_pieces, helper_outline, helpers_pieces, form_outline, family_outline, OutlineOf, of_sexp, of_body, of_binding, of_helper, of_form}
 use Rattle.outline.specs.Shape.{fields_of, records_then, PlainField, a_byte, a_loc, a_keyword, a_hint, a_number, a_name, a_raw, InShape, in_shape, AllInShape, none_in_shape, more_in_shape, FieldsAre, no_fields, more_fields, FieldIs, a_plain_field, a_record, a_name_pattern, a_complex_pattern, no_tail_field, a_tail_field, several_records}
 use Rattle.outline.proofs.Listings.{join_none}
 
@@ -140,3 +140,11 @@ shaped_family a_Body t v = shaped_body t v.0
 shaped_family a_binding t v = shaped_binding t v.0
 shaped_family a_helper t v = shaped_helper t v.0
 shaped_family a_form t v = shaped_form t v.0
+
+-- so the outline of every valid record is shaped
+pub of_shaped : {x : Outline} → OutlineOf x → InShape x
+of_shaped (of_sexp s v) = shaped_sexp s v
+of_shaped (of_body b v) = shaped_body b v
+of_shaped (of_binding b v) = shaped_binding b v
+of_shaped (of_helper h v) = shaped_helper h v
+of_shaped (of_form f v) = shaped_form f v

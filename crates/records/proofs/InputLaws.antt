@@ -155,11 +155,15 @@ module _ {A : Type 0} (m : Reader A) (F work c : ℕ) (input : Bytes) where
       by_whole (whole a (Some p)) = refl
       by_whole (unread f p) = refl
 
--- the answer says that an input is opened
+-- the answer says whether an input is opened or refused
 module _ {A : Type 0} where
   pub is_opened : (o : Opened A) → opening_of o ≡ Ok tt → (a : A) × (o ≡ opened a)
   is_opened (opened a) e = (a, refl)
   is_opened (closed r) e = let no : ◌≡◌ {A = ℕ} 0 1 = cc in absurd (omega (arith, no))
+
+  pub is_closed : (o : Opened A) (r : Refusal) → opening_of o ≡ Err r → o ≡ closed r
+  is_closed (opened a) r e = let no : ◌≡◌ {A = ℕ} 0 1 = cc in absurd (omega (arith, no))
+  is_closed (closed q) r e = let same : q ≡ r = cc in ap closed same
 
 -- the reader that a call wants
 pub wanted_bytes : (w : Wanted) → (wanted_reader w).0 → Bytes

@@ -1,6 +1,7 @@
 -- What the reader's code answers: a reading (Read.antt) whose tree is forgotten. `Scan`, `Context` and `Zone` are those of the code.
 -- Assumes nothing.
 use Rattle.std.specs.Prelude.{true, false, List, [], ◌∷◌, ◌≡◌, ℕ, zero, suc, ◌+◌, ◌-◌, ◌≤◌, get_or, drop, Option, Some, None, Result, Ok, Err, IfOk}
+use Rattle.std.specs.Result.{OnErr}
 use Rattle.std.specs.Borrow.{Bor}
 use Rattle.std.proofs.Common.{zero-le}
 use Prim.Native.String.{String}
@@ -152,6 +153,10 @@ goes_on m x c = left_by (m x (input_at x.mark c))
 -- what is not refused is a reading of the same bytes
 abbrev pub SameBytes : Scan → Result Scan Refusal → Type 0
 SameBytes c r = IfOk r (λ d. d.s ≡ c.s)
+
+-- a reading that is refused stays as it is
+abbrev pub Stays : {A : Type 0} → Scan → Scan → Result A Refusal → Type 0
+Stays c d r = OnErr r (d ≡ c)
 
 -- r is where m comes from the reading c, in the context x
 pub record Comes {A : Type 0} (m : Reader A) (x : Context) (c : Scan) (r : Result Scan Refusal) : Type 0 where

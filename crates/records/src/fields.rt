@@ -1,9 +1,10 @@
-// The fields of a record. Each method goes on from a reading of a record whose mark stands at `mark`.
+// The fields of a record. Each method goes on from a reading of a record whose mark stands at `mark`; a
+// refused reading stays as it is.
 ghost use Rattle.std.specs.Prelude.{◌≡◌, ◌≤◌, IfOk};
 ghost use Rattle.names.specs.Refusals.{place_at, refusing};
 ghost use Rattle.records.specs.ReadFields.{Fault, fault_reason, next, bytes, loc, counted, name, raw_field, integer, at_most, optional_loc, keyword, hint, count, shortest};
 ghost use Rattle.records.specs.Records.{mark_width};
-ghost use Rattle.records.specs.Scan.{Reads, SameBytes, left_in, next_byte};
+ghost use Rattle.records.specs.Scan.{Reads, SameBytes, Stays, left_in, next_byte};
 
 use crate::{COUNT_LIMIT, INTEGER_WIDTH, LOC_WIDTH, MARK_WIDTH, RAW_WIDTH, Scan};
 use names::bytes::number;
@@ -22,14 +23,16 @@ pub fn refused(mark: usize, reason: Reason) -> Refusal
 impl<'a> Scan<'a> {
     // The mark of a record.
     pub fn past_mark(&mut self, mark: usize) -> Result<(), Refusal>
-        ensures { Reads (bytes mark_width) mark self.old (left_in self.new result) }
+        ensures reads { Reads (bytes mark_width) mark self.old (left_in self.new result) }
+        ensures stays { Stays self.old self.new result }
     {
         self.bytes(mark, MARK_WIDTH)
     }
 
     // So many bytes.
     pub fn bytes(&mut self, mark: usize, n: usize) -> Result<(), Refusal>
-        ensures { Reads (bytes n) mark self.old (left_in self.new result) }
+        ensures reads { Reads (bytes n) mark self.old (left_in self.new result) }
+        ensures stays { Stays self.old self.new result }
     {
         if self.s.len() - self.at < n {
             return Err(refused(mark, Reason::NotOneRecord));
@@ -40,7 +43,8 @@ impl<'a> Scan<'a> {
 
     // A location.
     pub fn loc(&mut self, mark: usize) -> Result<(), Refusal>
-        ensures { Reads loc mark self.old (left_in self.new result) }
+        ensures reads { Reads loc mark self.old (left_in self.new result) }
+        ensures stays { Stays self.old self.new result }
     {
         self.bytes(mark, LOC_WIDTH)
     }
@@ -48,23 +52,29 @@ impl<'a> Scan<'a> {
     // A length of `width` bytes, and that many bytes.
     fn counted(&mut self, mark: usize, width: usize) -> Result<(), Refusal>
         requires { width ≤ 8 }
-        ensures { Reads (counted width) mark self.old (left_in self.new result) }
+        ensures reads { Reads (counted width) mark self.old (left_in self.new result) }
+        ensures stays { Stays self.old self.new result }
     {
-        let at = self.at;
-        self.bytes(mark, width)?;
-        self.bytes(mark, number(self.s, at, width))
+        let mut d = *self;
+        d.bytes(mark, width)?;
+        let n = number(d.s, self.at, width);
+        d.bytes(mark, n)?;
+        *self = d;
+        Ok(())
     }
 
     // A name.
     pub fn name(&mut self, mark: usize) -> Result<(), Refusal>
-        ensures { Reads name mark self.old (left_in self.new result) }
+        ensures reads { Reads name mark self.old (left_in self.new result) }
+        ensures stays { Stays self.old self.new result }
     {
         self.counted(mark, NAME_WIDTH)
     }
 
     // A field that is only copied.
     pub fn raw(&mut self, mark: usize) -> Result<(), Refusal>
-        ensures { Reads raw_field mark self.old (left_in self.new result) }
+        ensures reads { Reads raw_field mark self.old (left_in self.new result) }
+        ensures stays { Stays self.old self.new result }
     {
         self.counted(mark, RAW_WIDTH)
     }
@@ -73,6 +83,7 @@ impl<'a> Scan<'a> {
     pub fn byte(&mut self, mark: usize) -> Result<u8, Refusal>
         ensures reads { Reads next mark self.old (left_in self.new result) }
         ensures byte { IfOk result (λ b. b ≡ next_byte self.old) }
+        ensures stays { Stays self.old self.new result }
     {
         let at = self.at;
         self.bytes(mark, 1)?;
@@ -84,11 +95,14 @@ impl<'a> Scan<'a> {
         ensures reads { (f : Fault) → fault_reason f ≡ fault → Reads (at_most f most) mark self.old (left_in self.new result) }
         ensures same { SameBytes self.old (left_in self.new result) }
         ensures byte { IfOk result (λ b. b ≡ next_byte self.old) }
+        ensures stays { Stays self.old self.new result }
     {
-        let b = self.byte(mark)?;
+        let mut d = *self;
+        let b = d.byte(mark)?;
         if b > most {
             return Err(refused(mark, fault));
         }
+        *self = d;
         Ok(b)
     }
 
@@ -96,44 +110,52 @@ impl<'a> Scan<'a> {
     pub fn count(&mut self, mark: usize) -> Result<u8, Refusal>
         ensures reads { Reads count mark self.old (left_in self.new result) }
         ensures byte { IfOk result (λ n. n ≡ next_byte self.old) }
+        ensures stays { Stays self.old self.new result }
     {
         self.at_most(mark, COUNT_LIMIT, Reason::PastLimit)
     }
 
     // A byte of at most `most`, with a location behind it from `least` on.
     fn optional_loc(&mut self, mark: usize, least: u8, most: u8) -> Result<(), Refusal>
-        ensures { Reads (optional_loc least most) mark self.old (left_in self.new result) }
+        ensures reads { Reads (optional_loc least most) mark self.old (left_in self.new result) }
+        ensures stays { Stays self.old self.new result }
     {
-        if self.at_most(mark, most, Reason::NotOneRecord)? < least {
-            return Ok(());
+        let mut d = *self;
+        if d.at_most(mark, most, Reason::NotOneRecord)? >= least {
+            d.loc(mark)?;
         }
-        self.loc(mark)
+        *self = d;
+        Ok(())
     }
 
     // The optional keyword.
     pub fn keyword(&mut self, mark: usize) -> Result<(), Refusal>
-        ensures { Reads keyword mark self.old (left_in self.new result) }
+        ensures reads { Reads keyword mark self.old (left_in self.new result) }
+        ensures stays { Stays self.old self.new result }
     {
         self.optional_loc(mark, 1, 1)
     }
 
     // The hint of a let.
     pub fn hint(&mut self, mark: usize) -> Result<(), Refusal>
-        ensures { Reads hint mark self.old (left_in self.new result) }
+        ensures reads { Reads hint mark self.old (left_in self.new result) }
+        ensures stays { Stays self.old self.new result }
     {
         self.optional_loc(mark, 2, 3)
     }
 
     // A number's bytes after their count: at least one, and no more than it needs.
     pub fn integer(&mut self, mark: usize) -> Result<(), Refusal>
-        ensures { Reads integer mark self.old (left_in self.new result) }
+        ensures reads { Reads integer mark self.old (left_in self.new result) }
+        ensures stays { Stays self.old self.new result }
     {
-        let at = self.at;
-        self.counted(mark, INTEGER_WIDTH)?;
-        if shortest(&self.s[at + INTEGER_WIDTH..self.at]) {
-            return Ok(());
+        let mut d = *self;
+        d.counted(mark, INTEGER_WIDTH)?;
+        if !shortest(&d.s[self.at + INTEGER_WIDTH..d.at]) {
+            return Err(refused(mark, Reason::NotOneRecord));
         }
-        Err(refused(mark, Reason::NotOneRecord))
+        *self = d;
+        Ok(())
     }
 }
 

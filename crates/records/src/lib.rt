@@ -126,10 +126,10 @@ pub enum Family {
 // plain fields too.
 #[derive(Clone, Copy)]
 pub struct Scan<'a> {
-    s: &'a [u8],
-    at: usize,
-    first: Option<usize>,
-    ghost in_bounds: { at ≤ length s.now },
+    pub s: &'a [u8],
+    pub at: usize,
+    pub first: Option<usize>,
+    pub ghost in_bounds: { at ≤ length s.now },
 }
 
 // The record that a call wants: a CF, an H record, or one BL of kind 2.

@@ -6,7 +6,7 @@ ghost use Rattle.records.specs.Read.{note, pattern_of, let_after, call_after, mo
 ghost use Rattle.records.specs.Scan.{body_mark_of, helper_mark_of, left_in, reader_of, times_of, many_of, let_of_kind, tail_of, body_after, lambda_within, helper_after, below, in_zone_of, starts, Comes, Reads, Goes};
 
 use crate::fields::refused;
-use crate::{BodyMark, CONS_LIMIT, Context, Family, HelperMark, Kind, Scan, Zone};
+use crate::{BodyMark, CONS_LIMIT, Context, Family, HelperMark, Kind, MARK_WIDTH, Scan, Zone};
 use names::bytes::is_word;
 use names::{Reason, Refusal};
 
@@ -15,13 +15,13 @@ use names::{Reason, Refusal};
 pub fn body_mark(s: &[u8]) -> Option<BodyMark>
     ensures { result ≡ body_mark_of (take mark_width s.now) }
 {
-    match s {
-        [b'B', b'V', ..] => Some(BodyMark::Value),
-        [b'B', b'C', ..] => Some(BodyMark::Call),
-        [b'B', b'Q', ..] => Some(BodyMark::Quoted),
-        [b'B', b'L', ..] => Some(BodyMark::Let),
-        [b'B', b'F', ..] => Some(BodyMark::Lambda),
-        [b'B', b'M', ..] => Some(BodyMark::Mod),
+    match s.first_chunk::<MARK_WIDTH>() {
+        Some(b"BV") => Some(BodyMark::Value),
+        Some(b"BC") => Some(BodyMark::Call),
+        Some(b"BQ") => Some(BodyMark::Quoted),
+        Some(b"BL") => Some(BodyMark::Let),
+        Some(b"BF") => Some(BodyMark::Lambda),
+        Some(b"BM") => Some(BodyMark::Mod),
         _ => None,
     }
 }
@@ -31,12 +31,12 @@ pub fn body_mark(s: &[u8]) -> Option<BodyMark>
 pub fn helper_mark(s: &[u8]) -> Option<HelperMark>
     ensures { result ≡ helper_mark_of (take mark_width s.now) }
 {
-    match s {
-        [b'H', b'D', ..] => Some(HelperMark::Function),
-        [b'H', b'C', ..] => Some(HelperMark::Constant),
-        [b'H', b'M', ..] => Some(HelperMark::Macro),
-        [b'H', b'N', ..] => Some(HelperMark::Namespace),
-        [b'H', b'R', ..] => Some(HelperMark::Reference),
+    match s.first_chunk::<MARK_WIDTH>() {
+        Some(b"HD") => Some(HelperMark::Function),
+        Some(b"HC") => Some(HelperMark::Constant),
+        Some(b"HM") => Some(HelperMark::Macro),
+        Some(b"HN") => Some(HelperMark::Namespace),
+        Some(b"HR") => Some(HelperMark::Reference),
         _ => None,
     }
 }

@@ -2,10 +2,10 @@
 ghost use Rattle.std.specs.Prelude.{◌≡◌, ◌+◌, ◌^◌, ◌<◌, length, take};
 ghost use Rattle.records.specs.Records.{mark_width};
 ghost use Rattle.records.specs.Read.{cons_rule, sexp_at};
-ghost use Rattle.records.specs.Scan.{Reads, starts, left_in, sexp_mark_of};
+ghost use Rattle.records.specs.Scan.{Reads, Stays, starts, left_in, sexp_mark_of};
 
 use crate::fields::refused;
-use crate::{Scan, SexpMark};
+use crate::{MARK_WIDTH, Scan, SexpMark};
 use names::{Reason, Refusal};
 
 // Which mark of an S record stands at the start of s, if any.
@@ -13,21 +13,31 @@ use names::{Reason, Refusal};
 pub fn sexp_mark(s: &[u8]) -> Option<SexpMark>
     ensures { result ≡ sexp_mark_of (take mark_width s.now) }
 {
-    match s {
-        [b'S', b'A', ..] => Some(SexpMark::Atom),
-        [b'S', b'C', ..] => Some(SexpMark::Pair),
-        [b'S', b'N', ..] => Some(SexpMark::Nil),
-        [b'S', b'I', ..] => Some(SexpMark::Integer),
-        [b'S', b'Q', ..] => Some(SexpMark::Text),
+    match s.first_chunk::<MARK_WIDTH>() {
+        Some(b"SA") => Some(SexpMark::Atom),
+        Some(b"SC") => Some(SexpMark::Pair),
+        Some(b"SN") => Some(SexpMark::Nil),
+        Some(b"SI") => Some(SexpMark::Integer),
+        Some(b"SQ") => Some(SexpMark::Text),
         _ => None,
     }
 }
 
 // S records, and what stands in them.
 impl<'a> Scan<'a> {
-    // The S record with which the bytes start, at most `depth` SC deep.
-    #[cycle(sexps)]
+    // The S record to which a reading has come, at most `depth` SC deep; said of one that starts.
     pub fn sexp(&mut self, mark: usize, depth: usize) -> Result<(), Refusal>
+        requires { mark + length self.old.s.now < 2 ^ 64 }
+        ensures reads { self.old.at ≡ 0 → Reads (sexp_at depth) mark (starts self.old.s self.old.first) (left_in self.new result) }
+        ensures stays { Stays self.old self.new result }
+    {
+        self.child_sexp(mark, depth)
+    }
+
+    // The S record with which the bytes start, as `child_sexp` runs it: where it is refused, the reading
+    // may have moved.
+    #[cycle(sexps)]
+    fn leading_sexp(&mut self, mark: usize, depth: usize) -> Result<(), Refusal>
         requires { mark + length self.old.s.now < 2 ^ 64 }
         ensures { self.old.at ≡ 0 → Reads (sexp_at depth) mark (starts self.old.s self.old.first) (left_in self.new result) }
     {
@@ -72,14 +82,15 @@ impl<'a> Scan<'a> {
     #[cycle(sexps)]
     pub fn child_sexp(&mut self, mark: usize, depth: usize) -> Result<(), Refusal>
         requires { mark + length self.old.s.now < 2 ^ 64 }
-        ensures { Reads (sexp_at depth) mark self.old (left_in self.new result) }
+        ensures reads { Reads (sexp_at depth) mark self.old (left_in self.new result) }
+        ensures stays { Stays self.old self.new result }
     {
         let mut d = Scan {
             s: &self.s[self.at..],
             at: 0,
             first: self.first,
         };
-        d.sexp(mark + self.at, depth)?;
+        d.leading_sexp(mark + self.at, depth)?;
         self.at += d.at;
         Ok(())
     }

@@ -130,12 +130,17 @@ pub record InputAsTold (c : Case) (input map wanted : Bytes) : Type 0 where
   pub is : input ≡ form_bytes form
   pub told : FormAsTold c map wanted form
 
+-- what a case tells of Substitute; after a refusal nothing is substituted, and the number is not looked at
+abbrev pub told_after : Result (Unit {0}) Refusal → ℕ → Option (Result (Unit {0}) Refusal)
+told_after (Ok u) n = told n 0
+told_after (Err r) n = Some (Err r)
+
 -- the head of a case: F, how long the result may be, the counter, the rule, the number that Invent gives, the counter after it and the number that
 -- Substitute gives, 2, 2, 8, 1, 1, 8 and 1 bytes; a refusal names no place
 abbrev pub case_from : Bytes → Option Case
 case_from head = do
   invented ← told (head_byte head 13) 0
-  substituted ← told (head_byte head 22) 0
+  substituted ← told_after invented (head_byte head 22)
   Some (record {
     f = head_field head 0 2;
     room = head_field head 2 2;

@@ -12,8 +12,9 @@
 mod sexps;
 
 ghost use Rattle.std.specs.Prelude.{◌≡◌, ◌≤◌, length};
-ghost use Rattle.replay_sexps.specs.Cases.{case_from};
+ghost use Rattle.replay_sexps.specs.Cases.{case_from, told_after};
 
+use names::Refusal;
 use names::bytes::number;
 use records::MOST_LONGEST;
 use replays::told::told;
@@ -31,19 +32,31 @@ const PARTS: usize = 3 * LONGEST;
 // Memory for the longest input with its map, and the most bytes that a result can take.
 const MEMORY: usize = FACTOR * MOST_LONGEST + LONGEST;
 
-// What a case gives and must get: none where no refusal has one of its numbers. Rust has no From
-// between usize and u64.
+// What a case tells of Substitute. After a refusal nothing is substituted, and the number is not looked
+// at.
+fn told_after(invented: Result<(), Refusal>, number: u8) -> Option<Result<(), Refusal>>
+    ensures { result ≡ told_after invented number }
+{
+    match invented {
+        Ok(()) => told(number, 0),
+        Err(_) => Some(invented),
+    }
+}
+
+// What a case gives and must get: none where a number that is looked at is no refusal's. Rust has no
+// From between usize and u64.
 fn case_of(head: &[u8; HEAD]) -> Option<Case>
     ensures { result ≡ case_from head.now }
 {
+    let invented = told(head[13], 0)?;
     Some(Case {
         f: number(head, 0, 2),
         room: number(head, 2, 2),
         counter: number(head, 4, 8) as u64,
         rule: rule_of(head[12]),
-        invented: told(head[13], 0)?,
+        invented,
         after: number(head, 14, 8) as u64,
-        substituted: told(head[22], 0)?,
+        substituted: told_after(invented, head[22])?,
     })
 }
 

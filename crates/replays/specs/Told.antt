@@ -1,17 +1,7 @@
 -- What a case tells by a number and a place: a refusal, or that nothing is refused. Assumes nothing.
-use Rattle.std.specs.Prelude.{Bool, true, false, ◌&&◌, [], ◌∷◌, ℕ, eqb, get_or, Option, Some, None, option_map, option_and_then, Result, Ok, Err}
-use Rattle.names.specs.Refusals.{place_at, refusing}
-use Rattle.names.specs.declared.Reason.{Reason}
-use Rattle.names.specs.declared.Reason.TheVariants.{OutOfRange, NotOneRecord, PastLimit, ModInBinding, Deadlock, LongName, LongRecord, ShortBuffer, ShortPage}
+use Rattle.std.specs.Prelude.{Bool, true, false, ◌&&◌, ℕ, eqb, Option, Some, option_map, option_and_then, Result, Ok, Err}
+use Rattle.names.specs.Refusals.{place_at, refusing, reason_of}
 use Rattle.names.specs.declared.Refusal.{Refusal}
-
--- the reason of a number, where one has it
-abbrev pub reason_of : ℕ → Option Reason
-reason_of n =
-    get_or (
-    None
-    ∷ Some OutOfRange ∷ Some NotOneRecord ∷ Some PastLimit ∷ Some ModInBinding ∷ Some Deadlock ∷ Some LongName ∷ Some LongRecord ∷ Some ShortBuffer ∷ Some ShortPage ∷ []
-    ) n None
 
 -- 0 at 0 tells that nothing is refused; a number without a reason tells nothing
 abbrev pub told_if : Bool → ℕ → ℕ → Option (Result (Unit {0}) Refusal)

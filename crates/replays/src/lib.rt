@@ -49,7 +49,9 @@ pub fn read_part<'a>(stdin: &mut impl Read, buf: &'a mut [u8], count: usize) -> 
     ensures { IfOk result (λ part. length part.now ≡ count) }
 {
     let part = buf.get_mut(..count).ok_or(ErrorKind::UnexpectedEof)?;
-    stdin.read_exact(part)?;
+    if read_full(stdin, part)? < count {
+        return Err(io::Error::from(ErrorKind::UnexpectedEof));
+    }
     Ok(part)
 }
 

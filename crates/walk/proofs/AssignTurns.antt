@@ -126,7 +126,7 @@ module _ {old : Bytes} {row starts : List ℕ} {t : Task} (p : BindingsReady old
     abbrev pub at : ℕ
     at = get_or starts index 0
 
-    index_low : index < length p.bs
+    pub index_low : index < length p.bs
     index_low = p.rows j lt
 
     rest : drop j row ≡ index ∷ drop (suc j) row

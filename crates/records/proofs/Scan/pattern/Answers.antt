@@ -12,8 +12,8 @@ returns-in_err-at_most c = reads_stop _ (c.in_err-at_most.ensures.reads malforme
 
 pub returns-then-branch-eq0 : goal.returns-then-branch-eq0
 unfolding fault_reason
-returns-then-branch-eq0 c = pattern_name (c.in_ok-at_most.ensures.reads malformed refl) (rw c.in_ok-at_most.ensures.byte at c.if-branch-eq0.true) c.name.ensures
+returns-then-branch-eq0 c = pattern_name (c.in_ok-at_most.ensures.reads malformed refl) (rw c.in_ok-at_most.ensures.byte at c.if-branch-eq0.true) c.name.ensures.reads
 
 pub returns : goal.returns
 unfolding fault_reason
-returns c = pattern_complex (c.in_ok-at_most.ensures.reads malformed refl) (rw c.in_ok-at_most.ensures.byte at c.if-branch-eq0.false) c.child_sexp.ensures
+returns c = pattern_complex (c.in_ok-at_most.ensures.reads malformed refl) (rw c.in_ok-at_most.ensures.byte at c.if-branch-eq0.false) c.child_sexp.ensures.reads

@@ -2,5 +2,5 @@
 use Rattle.records.proofs.FieldLaws.{reads_raw}
 use Rattle.records.proofs.Scan.raw.Goals as goal
 
-pub returns : goal.returns
-returns c = reads_raw c.counted.ensures
+pub returns-clause-reads : goal.returns-clause-reads
+returns-clause-reads c = reads_raw c.counted.ensures.reads
