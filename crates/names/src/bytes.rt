@@ -54,8 +54,7 @@ pub fn is_word(s: &[u8], at: usize, word: &[u8]) -> bool
     same(&s[at..at + n], word)
 }
 
-// Writes src into out at a place. No `copy_from_slice`: with it the library for C asks for `memmove` too,
-// and a short name takes longer.
+// Writes src into out at a place. No `copy_from_slice`: with it the library for C asks for `memmove` too.
 pub fn put(out: &mut [u8], at: usize, src: &[u8])
     requires { at + length src.now ≤ length out.old }
     ensures { Filled out.old out.new at src.now (length src.now) }
